@@ -20,7 +20,7 @@ use Rattle.reg_tables.specs.Tables.{meta, deposits, lines, steps, withdrawals, n
 use Rattle.reg_tables.specs.Texts.{create_meta, create_deposits, create_lines, create_steps, create_withdrawals}
 use Rattle.reg_tables.proofs.MeaningLaws.{meta_is, deposits_is, lines_is, steps_is, withdrawals_is, with_lines}
 use Rattle.reg_tables.proofs.MeaningLaws.{first_is, schema_is, meta_text, deposits_text, lines_text, steps_text}
-use Rattle.reg_tables.proofs.MeaningLaws.{withdrawals_text}
+use Rattle.reg_tables.proofs.MeaningLaws.{MakesTable, withdrawals_text}
 use Rattle.reg_tables.specs.Meaning.{with_meta, with_deposits}
 use Rattle.reg_tables.specs.Rows.{columns_3, columns_5, dictionary_row, format_row, mark_column, meta_rows, rows_under}
 use Rattle.reg_tables.proofs.InsertsLaws.{FillsMeta, same_value, went}
@@ -28,9 +28,11 @@ use Rattle.reg_tables.specs.Register.{IsRegister, tables}
 use Rattle.reg_tables.specs.Creates.{Made, MakesWithdrawals, HasFirst, HasFour, IsNewRegister, IsEmptyRegister}
 
 makes : (old new : State) (count : ℕ) (from : Schema) (text : List ℕ) (table : Table) (to : Schema)
-    → table_defined_by text ≡ Ok table → created from table ≡ to → lacks_sequence to ≡ false
-    → old.now.schema ≡ from → Writes old new None CreateTable text [] count → Made from to old.now new.now
-makes old new count from text table to defined is unsequenced has w =
+    → table_defined_by text ≡ Ok table → created from table ≡ to → lacks_sequence to ≡ false → MakesTable from text
+    → old.now.schema ≡ from → Executes text [] old new (Ok count) → Made from to old.now new.now
+makes old new count from text table to defined is unsequenced means has h =
+    let w = subst (λ t. Writes old new None CreateTable t [] count) means.1
+    (runs_as text [] old new from has CreateTable means.0 means.2 count h) in
     let all = went w.changed in
     let first = went all.1 in
     let made = first.1 in
@@ -50,37 +52,31 @@ makes old new count from text table to defined is unsequenced has w =
 pub makes_meta : (old new : State) (count : ℕ) → old.now.schema ≡ no_schema → Executes create_meta [] old new (Ok count)
     → Made no_schema with_meta old.now new.now
 makes_meta old new count has h =
-    makes old new count no_schema create_meta meta with_meta meta_is refl refl has
-    (subst (λ t. Writes old new None CreateTable t [] count) meta_text.1
-    (runs_as create_meta [] old new no_schema has CreateTable meta_text.0 meta_text.2 count h))
+    makes old new count no_schema create_meta meta with_meta meta_is refl refl meta_text has h
 
 pub makes_deposits : (old new : State) (count : ℕ) → old.now.schema ≡ with_meta
     → Executes create_deposits [] old new (Ok count) → Made with_meta with_deposits old.now new.now
 makes_deposits old new count has h =
-    makes old new count with_meta create_deposits (record deposits { tree = 0 }) with_deposits deposits_is refl refl has
-    (subst (λ t. Writes old new None CreateTable t [] count) deposits_text.1
-    (runs_as create_deposits [] old new with_meta has CreateTable deposits_text.0 deposits_text.2 count h))
+    makes old new count with_meta create_deposits (record deposits { tree = 0 }) with_deposits deposits_is refl refl
+    deposits_text has h
 
 pub makes_lines : (old new : State) (count : ℕ) → old.now.schema ≡ with_deposits
     → Executes create_lines [] old new (Ok count) → Made with_deposits with_lines old.now new.now
 makes_lines old new count has h =
-    makes old new count with_deposits create_lines (record lines { tree = 0 }) with_lines lines_is refl refl has
-    (subst (λ t. Writes old new None CreateTable t [] count) lines_text.1
-    (runs_as create_lines [] old new with_deposits has CreateTable lines_text.0 lines_text.2 count h))
+    makes old new count with_deposits create_lines (record lines { tree = 0 }) with_lines lines_is refl refl
+    lines_text has h
 
 pub makes_steps : (old new : State) (count : ℕ) → old.now.schema ≡ with_lines
     → Executes create_steps [] old new (Ok count) → Made with_lines first_schema old.now new.now
 makes_steps old new count has h =
-    makes old new count with_lines create_steps (record steps { tree = 0 }) first_schema steps_is first_is refl has
-    (subst (λ t. Writes old new None CreateTable t [] count) steps_text.1
-    (runs_as create_steps [] old new with_lines has CreateTable steps_text.0 steps_text.2 count h))
+    makes old new count with_lines create_steps (record steps { tree = 0 }) first_schema steps_is first_is refl
+    steps_text has h
 
 pub makes_withdrawals : (old new : State) (count : ℕ) → old.now.schema ≡ first_schema
     → Executes create_withdrawals [] old new (Ok count) → MakesWithdrawals old.now new.now
 makes_withdrawals old new count has h =
     makes old new count first_schema create_withdrawals (record withdrawals { tree = 0 }) register_schema withdrawals_is
-    schema_is refl has (subst (λ t. Writes old new None CreateTable t [] count) withdrawals_text.1
-    (runs_as create_withdrawals [] old new first_schema has CreateTable withdrawals_text.0 withdrawals_text.2 count h))
+    schema_is refl withdrawals_text has h
 
 -- all tables, all empty
 pub record HasAll (db : Database) : Type 0 where

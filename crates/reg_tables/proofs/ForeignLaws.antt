@@ -107,35 +107,32 @@ no_parent n v (p ∷ rows) is none = go (no_parent n v rows is) (has_number n (c
     go more true e h = absurd cc
     go more false e h = rw (apart_from (column p 1) v n is e) (more h)
 
+-- where no row that is keyed is of the number, no row of the table is
+no_under : (see : Row → Row) (Keyed : Row → Type 0) (n : ℕ) → ((r : Row) → is_of n (see r) ≡ true → Keyed r → ⊥)
+    → (rows : List Row) → AllByRecursion Keyed rows → rows_under n (map see rows) ≡ []
+no_under see Keyed n none [] keyed = refl
+no_under see Keyed n none (r ∷ rows) keyed = go (no_under see Keyed n none rows keyed.1) (is_of n (see r)) refl
+  where
+    go : rows_under n (map see rows) ≡ [] → (b : Bool) → is_of n (see r) ≡ b
+        → map (drop 1) (if b then see r ∷ filter (is_of n) (map see rows) else filter (is_of n) (map see rows)) ≡ []
+    go more true e = absurd (none r e keyed.0)
+    go more false e = more
+
 -- no row of lines has a number that no deposit has
 pub no_lines : (trees : Trees) (n : ℕ) (rows : List Row) → filter (has_number n) (deposit_table trees) ≡ []
     → AllByRecursion (λ r. passes ForeignKey register_schema trees lines r ≡ true) rows
     → rows_under n (map columns_5 rows) ≡ []
-no_lines trees n [] none keyed = refl
-no_lines trees n (r ∷ rows) none keyed = go (no_lines trees n rows none keyed.1) (is_of n (columns_5 r)) refl
-  where
-    go : rows_under n (map columns_5 rows) ≡ [] → (b : Bool) → is_of n (columns_5 r) ≡ b → map (drop 1)
-        (if b then columns_5 r ∷ filter (is_of n) (map columns_5 rows) else filter (is_of n) (map columns_5 rows)) ≡ []
-    go more true e = absurd (let held = rw (
-      not_null (column r 1) n e,
-      no_parent n (column r 1) (trees 2) e none,
-    ) at (has_deposit trees r keyed.0) in cc)
-    go more false e = more
+no_lines trees n rows none = no_under columns_5 (λ r. passes ForeignKey register_schema trees lines r ≡ true) n
+    (λ r e keyed. (let held = rw (not_null (column r 1) n e, no_parent n (column r 1) (trees 2) e none) at
+    (has_deposit trees r keyed) in cc)) rows
 
 -- no row of steps has a number that no deposit has
 pub no_steps : (trees : Trees) (n : ℕ) (rows : List Row) → filter (has_number n) (deposit_table trees) ≡ []
     → AllByRecursion (λ r. passes ForeignKey register_schema trees steps r ≡ true) rows
     → rows_under n (map columns_3 rows) ≡ []
-no_steps trees n [] none keyed = refl
-no_steps trees n (r ∷ rows) none keyed = go (no_steps trees n rows none keyed.1) (is_of n (columns_3 r)) refl
-  where
-    go : rows_under n (map columns_3 rows) ≡ [] → (b : Bool) → is_of n (columns_3 r) ≡ b → map (drop 1)
-        (if b then columns_3 r ∷ filter (is_of n) (map columns_3 rows) else filter (is_of n) (map columns_3 rows)) ≡ []
-    go more true e = absurd (let held = rw (
-      not_null (column r 1) n e,
-      no_parent n (column r 1) (trees 2) e none,
-    ) at (step_has_deposit trees r keyed.0) in cc)
-    go more false e = more
+no_steps trees n rows none = no_under columns_3 (λ r. passes ForeignKey register_schema trees steps r ≡ true) n
+    (λ r e keyed. (let held = rw (not_null (column r 1) n e, no_parent n (column r 1) (trees 2) e none) at
+    (step_has_deposit trees r keyed) in cc)) rows
 
 -- the rows of lines, and those of steps, have their rows of deposits, in either format
 pub keyed_lines : (format : Format) (trees : Trees) → IsSound (schema_of format) trees

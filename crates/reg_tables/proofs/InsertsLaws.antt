@@ -25,16 +25,15 @@ use Rattle.sqlite_rules.specs.Action as action
 use Rattle.sqlite_schema.specs.declared.schema.Keys.TheVariants.{Enforced}
 use Rattle.sqlite.specs.Listing.{understood}
 use Rattle.sqlite.specs.State.{State, mode_of, Executes}
-use Rattle.sqlite.proofs.Callers.{IsPlain, command_of, statement_of, runs_as, one_step}
+use Rattle.sqlite.proofs.Callers.{statement_of, runs_as, one_step}
 use Rattle.reg_store.specs.declared.keep.KeptRow.{KeptRow}
 use Rattle.reg_store.specs.Sent.{Sent}
 use Rattle.reg_tables.specs.Tables.{simple, meta, deposits, lines, steps, withdrawals, register_schema}
 use Rattle.reg_tables.specs.Texts.{insert_deposit, insert_line, insert_step, insert_mark, insert_eight_lines}
 use Rattle.reg_tables.specs.Texts.{insert_eight_steps, fill_meta}
-use Rattle.reg_tables.proofs.MeaningLaws.{deposit_terms, deposit_is, deposit_plain, line_terms, line_is, line_plain}
-use Rattle.reg_tables.proofs.MeaningLaws.{step_terms, step_is, step_plain, mark_terms, mark_is, mark_plain}
-use Rattle.reg_tables.proofs.MeaningLaws.{eight_line_terms, eight_lines_are, eight_lines_plain, eight_step_terms}
-use Rattle.reg_tables.proofs.MeaningLaws.{eight_steps_are, eight_steps_plain, fill_terms, fill_is, fill_plain}
+use Rattle.reg_tables.proofs.MeaningLaws.{InsertsInto, deposit_terms, deposit_is, line_terms, line_is, step_terms}
+use Rattle.reg_tables.proofs.MeaningLaws.{step_is, mark_terms, mark_is, eight_line_terms, eight_lines_are}
+use Rattle.reg_tables.proofs.MeaningLaws.{eight_step_terms, eight_steps_are, fill_terms, fill_is}
 use Rattle.reg_tables.specs.Rows.{columns_5, columns_3, joined, line_row, line_rows, step_row, step_rows, given_deposit}
 use Rattle.reg_tables.specs.Rows.{mark_column, mark_row, meta_rows}
 use Rattle.reg_tables.proofs.PutLaws.{cast_int, IsBlind, AreSeen, seen_blind, all_seen}
@@ -90,20 +89,20 @@ by_eight P all (a ∷ b ∷ c ∷ d ∷ e ∷ f ∷ g ∷ i ∷ j ∷ more) eigh
 puts : (at : ℕ) (name : List ℕ) (tree : ℕ) (columns : List Column) (alias : Option ℕ) (key : List ℕ)
     (uniques : List (List ℕ)) (orders : List Order) (references : List Reference)
     → slice_get register_schema.tables at ≡ Some (simple name tree columns alias key uniques orders references)
-    → (see : Row → Row) (width : ℕ) (sql : List ℕ) (terms : List Term) → command_of (understood register_schema sql)
-    ≡ Insert at (Values terms width) → IsPlain (understood register_schema sql)
-    → (params : Row) → IsLone (simple name tree columns alias key uniques orders references) width terms params
+    → (see : Row → Row) (width : ℕ) (sql : List ℕ) (terms : List Term)
+    → InsertsInto at terms width sql → (params : Row)
+    → IsLone (simple name tree columns alias key uniques orders references) width terms params
     → AreSeen see (taken_as (simple name tree columns alias key uniques orders references) width terms params)
     → (more : List Row)
     → map see (taken_as (simple name tree columns alias key uniques orders references) width terms params) ≡ more
     → (old new : State) (count : ℕ) → old.now.schema ≡ register_schema → Executes sql params old new (Ok count)
     → AddsTo tree see more old.now new.now
-puts at name tree columns alias key uniques orders references here see width sql terms is plain params lone same_seen
+puts at name tree columns alias key uniques orders references here see width sql terms means params lone same_seen
     more seen_as old new count has h =
     let table = simple name tree columns alias key uniques orders references in
     let db = old.now.trees in
     let command = Insert at (Values terms width) in
-    let w = runs_as sql params old new register_schema has command is plain count h in
+    let w = runs_as sql params old new register_schema has command means.0 means.1 count h in
     let text = statement_of sql (understood register_schema sql) in
     let mode = mode_of old in
     let known = subst (λ s. Does old.step_limit mode params (record old.now { schema = s }) text None command
@@ -139,24 +138,22 @@ puts at name tree columns alias key uniques orders references here see width sql
     }
 
 puts_lines : (sql : List ℕ) (terms : List Term)
-    → command_of (understood register_schema sql) ≡ Insert 2 (Values terms 6) → IsPlain (understood register_schema sql)
-    → (params : Row) → IsLone lines 6 terms params → (more : List Row)
+    → InsertsInto 2 terms 6 sql → (params : Row) → IsLone lines 6 terms params → (more : List Row)
     → map columns_5 (taken_as lines 6 terms params) ≡ more
     → (old new : State) (count : ℕ) → old.now.schema ≡ register_schema → Executes sql params old new (Ok count)
     → AddsLines more old.now new.now
-puts_lines sql terms is plain params lone =
+puts_lines sql terms means params lone =
     puts 2 lines.name lines.tree lines.columns lines.key lines.primary lines.uniques lines.orders lines.references refl
-    columns_5 6 sql terms is plain params lone (seen_blind columns_5 columns_5_blind _)
+    columns_5 6 sql terms means params lone (seen_blind columns_5 columns_5_blind _)
 
 puts_steps : (sql : List ℕ) (terms : List Term)
-    → command_of (understood register_schema sql) ≡ Insert 3 (Values terms 4) → IsPlain (understood register_schema sql)
-    → (params : Row) → IsLone steps 4 terms params → (more : List Row)
+    → InsertsInto 3 terms 4 sql → (params : Row) → IsLone steps 4 terms params → (more : List Row)
     → map columns_3 (taken_as steps 4 terms params) ≡ more
     → (old new : State) (count : ℕ) → old.now.schema ≡ register_schema → Executes sql params old new (Ok count)
     → AddsSteps more old.now new.now
-puts_steps sql terms is plain params lone =
+puts_steps sql terms means params lone =
     puts 3 steps.name steps.tree steps.columns steps.key steps.primary steps.uniques steps.orders steps.references refl
-    columns_3 4 sql terms is plain params lone (seen_blind columns_3 columns_3_blind _)
+    columns_3 4 sql terms means params lone (seen_blind columns_3 columns_3_blind _)
 
 -- a row of a file, as the table takes it
 line_taken : (n at : ℕ) (row : KeptRow) → columns_5 (cast_row lines (Null ∷ line_row n at row)) ≡ line_row n at row
@@ -172,7 +169,7 @@ lines_taken n at (row ∷ rows) = ap (λ x. x ∷ map columns_5
 pub puts_line : (old new : State) (n at : ℕ) (row : KeptRow) (count : ℕ) → old.now.schema ≡ register_schema
     → Executes insert_line (line_row n at row) old new (Ok count) → AddsLines (line_row n at row ∷ []) old.now new.now
 puts_line old new n at row count has h =
-    puts_lines insert_line line_terms line_is line_plain (line_row n at row) (λ db. refl) (line_row n at row ∷ [])
+    puts_lines insert_line line_terms line_is (line_row n at row) (λ db. refl) (line_row n at row ∷ [])
     (lines_taken n at (row ∷ [])) old new count has h
 
 pub puts_eight_lines : (old new : State) (n at : ℕ) (rows : List KeptRow) (count : ℕ) → length rows ≡ 8
@@ -182,7 +179,7 @@ puts_eight_lines old new n at rows count eight has = by_eight (λ all. Executes 
     (joined (line_rows n at all)) old new (Ok count) → AddsLines (line_rows n at all) old.now new.now)
     (λ a b c d e f g i.
     let all = a ∷ b ∷ c ∷ d ∷ e ∷ f ∷ g ∷ i ∷ [] in
-    puts_lines insert_eight_lines eight_line_terms eight_lines_are eight_lines_plain (joined (line_rows n at all))
+    puts_lines insert_eight_lines eight_line_terms eight_lines_are (joined (line_rows n at all))
     (λ db. refl) (line_rows n at all) (lines_taken n at all) old new count has)
     rows eight
 
@@ -200,7 +197,7 @@ steps_taken n (step ∷ graph) = ap (λ x. x ∷ map columns_3
 pub puts_step : (old new : State) (n : ℕ) (step : ℕ × ℕ) (count : ℕ) → old.now.schema ≡ register_schema
     → Executes insert_step (step_row n step) old new (Ok count) → AddsSteps (step_row n step ∷ []) old.now new.now
 puts_step old new n step count has h =
-    puts_steps insert_step step_terms step_is step_plain (step_row n step) (λ db. refl) (step_row n step ∷ [])
+    puts_steps insert_step step_terms step_is (step_row n step) (λ db. refl) (step_row n step ∷ [])
     (steps_taken n (step ∷ [])) old new count has h
 
 pub puts_eight_steps : (old new : State) (n : ℕ) (graph : List (ℕ × ℕ)) (count : ℕ) → length graph ≡ 8
@@ -210,7 +207,7 @@ puts_eight_steps old new n graph count eight has = by_eight (λ all. Executes in
     (joined (step_rows n all)) old new (Ok count) → AddsSteps (step_rows n all) old.now new.now)
     (λ a b c d e f g i.
     let all = a ∷ b ∷ c ∷ d ∷ e ∷ f ∷ g ∷ i ∷ [] in
-    puts_steps insert_eight_steps eight_step_terms eight_steps_are eight_steps_plain (joined (step_rows n all))
+    puts_steps insert_eight_steps eight_step_terms eight_steps_are (joined (step_rows n all))
     (λ db. refl) (step_rows n all) (steps_taken n all) old new count has)
     graph eight
 
@@ -222,7 +219,7 @@ pub puts_deposit : (old new : State) (n : ℕ) (d : Sent) (count : ℕ) → old.
     → Executes insert_deposit (given_deposit n d) old new (Ok count) → AddsDeposit n d old.now new.now
 puts_deposit old new n d count =
     puts 1 deposits.name deposits.tree deposits.columns deposits.key deposits.primary deposits.uniques deposits.orders
-    deposits.references refl columns_5 6 insert_deposit deposit_terms deposit_is deposit_plain
+    deposits.references refl columns_5 6 insert_deposit deposit_terms deposit_is
     (given_deposit n d) (λ db. refl) (seen_blind columns_5 columns_5_blind
     (taken_as deposits 6 deposit_terms (given_deposit n d))) (given_deposit n d ∷ []) (deposit_taken n d) old new count
 
@@ -234,7 +231,7 @@ pub fills_meta : (old new : State) (dictionary : List ℕ) (count : ℕ) → old
     → Executes fill_meta (Bytes dictionary ∷ []) old new (Ok count) → FillsMeta dictionary old.now new.now
 fills_meta old new dictionary count =
     puts 0 meta.name meta.tree meta.columns meta.key meta.primary meta.uniques meta.orders meta.references refl
-    columns_3 4 fill_meta fill_terms fill_is fill_plain
+    columns_3 4 fill_meta fill_terms fill_is
     (Bytes dictionary ∷ []) (λ db. refl) (seen_blind columns_3 columns_3_blind
     (taken_as meta 4 fill_terms (Bytes dictionary ∷ []))) (meta_rows 2 dictionary) (meta_taken dictionary) old new count
 
@@ -249,5 +246,5 @@ pub puts_mark : (old new : State) (n : ℕ) (count : ℕ) → old.now.schema ≡
     → Executes insert_mark (mark_row n) old new (Ok count) → AddsMark n old.now new.now
 puts_mark old new n count =
     puts 4 withdrawals.name withdrawals.tree withdrawals.columns withdrawals.key withdrawals.primary withdrawals.uniques
-    withdrawals.orders withdrawals.references refl mark_column 2 insert_mark mark_terms mark_is mark_plain
+    withdrawals.orders withdrawals.references refl mark_column 2 insert_mark mark_terms mark_is
     (mark_row n) (λ db. refl) (mark_seen n) (mark_row n ∷ []) (mark_taken n) old new count

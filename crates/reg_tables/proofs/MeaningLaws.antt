@@ -61,93 +61,73 @@ pub schema_is : created first_schema (record withdrawals { tree = 0 }) ≡ regis
 unfolding understood everything
 schema_is = refl
 
-pub meta_text : (command_of (understood no_schema create_meta) ≡ CreateTable)
-    × (statement_of create_meta (understood no_schema create_meta) ≡ create_meta)
-    × IsPlain (understood no_schema create_meta)
+-- under this schema, the text makes a table, is all of its statement, and is plain
+abbrev pub MakesTable : Schema → List ℕ → Type 0
+MakesTable schema text = (command_of (understood schema text) ≡ CreateTable)
+    × (statement_of text (understood schema text) ≡ text) × IsPlain (understood schema text)
+
+pub meta_text : MakesTable no_schema create_meta
 unfolding understood everything
 meta_text = (refl, refl, (refl, refl))
 
-pub deposits_text : (command_of (understood with_meta create_deposits) ≡ CreateTable)
-    × (statement_of create_deposits (understood with_meta create_deposits) ≡ create_deposits)
-    × IsPlain (understood with_meta create_deposits)
+pub deposits_text : MakesTable with_meta create_deposits
 unfolding understood everything
 deposits_text = (refl, refl, (refl, refl))
 
-pub lines_text : (command_of (understood with_deposits create_lines) ≡ CreateTable)
-    × (statement_of create_lines (understood with_deposits create_lines) ≡ create_lines)
-    × IsPlain (understood with_deposits create_lines)
+pub lines_text : MakesTable with_deposits create_lines
 unfolding understood everything
 lines_text = (refl, refl, (refl, refl))
 
-pub steps_text : (command_of (understood with_lines create_steps) ≡ CreateTable)
-    × (statement_of create_steps (understood with_lines create_steps) ≡ create_steps)
-    × IsPlain (understood with_lines create_steps)
+pub steps_text : MakesTable with_lines create_steps
 unfolding understood everything
 steps_text = (refl, refl, (refl, refl))
 
-pub withdrawals_text : (command_of (understood first_schema create_withdrawals) ≡ CreateTable)
-    × (statement_of create_withdrawals (understood first_schema create_withdrawals) ≡ create_withdrawals)
-    × IsPlain (understood first_schema create_withdrawals)
+pub withdrawals_text : MakesTable first_schema create_withdrawals
 unfolding understood everything
 withdrawals_text = (refl, refl, (refl, refl))
 
 -- ---- the inserts
 
+-- under the schema of a register, the text adds rows of these terms, so many a row, to the table at this place
+abbrev pub InsertsInto : ℕ → List Term → ℕ → List ℕ → Type 0
+InsertsInto at terms width text = (command_of (understood register_schema text) ≡ Insert at (Values terms width))
+    × IsPlain (understood register_schema text)
+
 abbrev pub fill_terms : List Term
 fill_terms = lit Null ∷ lit (Words (codes "format")) ∷ lit (Int (pos 2)) ∷ lit (Bytes []) ∷ lit Null
     ∷ lit (Words (codes "dictionary")) ∷ lit (Int (pos 0)) ∷ col 0 0 ∷ []
 
-pub fill_is : command_of (understood register_schema fill_meta) ≡ Insert 0 (Values fill_terms 4)
+pub fill_is : InsertsInto 0 fill_terms 4 fill_meta
 unfolding understood everything
-fill_is = refl
-
-pub fill_plain : IsPlain (understood register_schema fill_meta)
-unfolding understood everything
-fill_plain = (refl, refl)
+fill_is = (refl, (refl, refl))
 
 abbrev pub deposit_terms : List Term
 deposit_terms = lit Null ∷ col 0 0 ∷ col 0 1 ∷ col 0 2 ∷ col 0 3 ∷ col 0 4 ∷ []
 
-pub deposit_is : command_of (understood register_schema insert_deposit) ≡ Insert 1 (Values deposit_terms 6)
+pub deposit_is : InsertsInto 1 deposit_terms 6 insert_deposit
 unfolding understood everything
-deposit_is = refl
-
-pub deposit_plain : IsPlain (understood register_schema insert_deposit)
-unfolding understood everything
-deposit_plain = (refl, refl)
+deposit_is = (refl, (refl, refl))
 
 abbrev pub line_terms : List Term
 line_terms = lit Null ∷ col 0 0 ∷ col 0 1 ∷ col 0 2 ∷ col 0 3 ∷ col 0 4 ∷ []
 
-pub line_is : command_of (understood register_schema insert_line) ≡ Insert 2 (Values line_terms 6)
+pub line_is : InsertsInto 2 line_terms 6 insert_line
 unfolding understood everything
-line_is = refl
-
-pub line_plain : IsPlain (understood register_schema insert_line)
-unfolding understood everything
-line_plain = (refl, refl)
+line_is = (refl, (refl, refl))
 
 abbrev pub step_terms : List Term
 step_terms = lit Null ∷ col 0 0 ∷ col 0 1 ∷ col 0 2 ∷ []
 
-pub step_is : command_of (understood register_schema insert_step) ≡ Insert 3 (Values step_terms 4)
+pub step_is : InsertsInto 3 step_terms 4 insert_step
 unfolding understood everything
-step_is = refl
-
-pub step_plain : IsPlain (understood register_schema insert_step)
-unfolding understood everything
-step_plain = (refl, refl)
+step_is = (refl, (refl, refl))
 
 abbrev pub mark_terms : List Term
 mark_terms = col 0 0 ∷ lit Null ∷ []
 
-pub mark_is : command_of (understood register_schema insert_mark) ≡ Insert 4 (Values mark_terms 2)
+pub mark_is : InsertsInto 4 mark_terms 2 insert_mark
 unfolding understood everything
-mark_is = refl
-
-pub mark_plain : IsPlain (understood register_schema insert_mark)
-unfolding understood everything
-mark_plain = (refl, refl)
+mark_is = (refl, (refl, refl))
 
 abbrev pub eight_line_terms : List Term
 eight_line_terms =
@@ -160,13 +140,9 @@ eight_line_terms =
     lit Null ∷ col 0 30 ∷ col 0 31 ∷ col 0 32 ∷ col 0 33 ∷ col 0 34 ∷
     lit Null ∷ col 0 35 ∷ col 0 36 ∷ col 0 37 ∷ col 0 38 ∷ col 0 39 ∷ []
 
-pub eight_lines_are : command_of (understood register_schema insert_eight_lines) ≡ Insert 2 (Values eight_line_terms 6)
+pub eight_lines_are : InsertsInto 2 eight_line_terms 6 insert_eight_lines
 unfolding understood everything
-eight_lines_are = refl
-
-pub eight_lines_plain : IsPlain (understood register_schema insert_eight_lines)
-unfolding understood everything
-eight_lines_plain = (refl, refl)
+eight_lines_are = (refl, (refl, refl))
 
 abbrev pub eight_step_terms : List Term
 eight_step_terms =
@@ -179,13 +155,9 @@ eight_step_terms =
     lit Null ∷ col 0 18 ∷ col 0 19 ∷ col 0 20 ∷
     lit Null ∷ col 0 21 ∷ col 0 22 ∷ col 0 23 ∷ []
 
-pub eight_steps_are : command_of (understood register_schema insert_eight_steps) ≡ Insert 3 (Values eight_step_terms 4)
+pub eight_steps_are : InsertsInto 3 eight_step_terms 4 insert_eight_steps
 unfolding understood everything
-eight_steps_are = refl
-
-pub eight_steps_plain : IsPlain (understood register_schema insert_eight_steps)
-unfolding understood everything
-eight_steps_plain = (refl, refl)
+eight_steps_are = (refl, (refl, refl))
 
 -- ---- the queries
 

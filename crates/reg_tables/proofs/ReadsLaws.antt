@@ -127,19 +127,19 @@ reads_lines old new n file rows has holds h =
     (line_entries 0 file) a.ordered (lines_rise 0 file) mine a.sorted in
     a.shown ∙ ap (map (λ (o : Output). o.1)) ordered ∙ line_entries_show 0 file
 
--- the rows after the number are what is shown of them
-lines_shown : (n : ℕ) (rows : List Row)
-    → map (λ (o : Output). o.1) (map by_seq (rows_under n (map columns_5 rows))) ≡ rows_under n (map columns_5 rows)
-lines_shown n [] = refl
-lines_shown n (r ∷ rows) = go (is_of n (columns_5 r)) (lines_shown n rows)
+-- the rows after the number are what is shown of them, if the entry of a row shows all of it
+pub under_shown : (entry : Row → Output) (see : Row → Row) → ((r : Row) → (entry (drop 1 (see r))).1 ≡ drop 1 (see r))
+    → (n : ℕ) (rows : List Row)
+    → map (λ (o : Output). o.1) (map entry (rows_under n (map see rows))) ≡ rows_under n (map see rows)
+under_shown entry see whole n [] = refl
+under_shown entry see whole n (r ∷ rows) = go (is_of n (see r)) (under_shown entry see whole n rows)
   where
-    go : (b : Bool)
-        → map (λ (o : Output). o.1) (map by_seq (rows_under n (map columns_5 rows))) ≡ rows_under n (map columns_5 rows)
-        → map (λ (o : Output). o.1) (map by_seq (map (drop 1)
-        (if b then columns_5 r ∷ filter (is_of n) (map columns_5 rows) else filter (is_of n) (map columns_5 rows))))
-        ≡ map (drop 1) (if b then columns_5 r ∷ filter (is_of n) (map columns_5 rows)
-        else filter (is_of n) (map columns_5 rows))
-    go true h = ap (λ all. drop 1 (columns_5 r) ∷ all) h
+    go : (b : Bool) → map (λ (o : Output). o.1) (map entry (rows_under n (map see rows))) ≡ rows_under n (map see rows)
+        → map (λ (o : Output). o.1) (map entry (map (drop 1)
+        (if b then see r ∷ filter (is_of n) (map see rows) else filter (is_of n) (map see rows))))
+        ≡ map (drop 1) (if b then see r ∷ filter (is_of n) (map see rows) else filter (is_of n) (map see rows))
+    go true h = ap (λ x. x ∷ map (λ (o : Output). o.1) (map entry (rows_under n (map see rows)))) (whole r)
+        ∙ ap (λ all. drop 1 (see r) ∷ all) h
     go false h = h
 
 -- Where the query shows these rows, the table holds them under the number, and no others: so a register is adopted.
@@ -151,4 +151,5 @@ holds_lines old new n rows has h =
     let same : IsPermutation (map by_seq (rows_under n (line_table old.now.trees))) a.ordered =
     subst (λ all. IsPermutation all a.ordered) (lines_selected n (old.now.trees 4)) a.same in
     let second = IsPermutation-map (λ (o : Output). o.1) _ _ same in
-    IsPermutation-sym _ _ (subst₂ IsPermutation (lines_shown n (old.now.trees 4)) (sym a.shown) second)
+    IsPermutation-sym _ _ (subst₂ IsPermutation (under_shown by_seq columns_5 (λ r. refl) n (old.now.trees 4))
+    (sym a.shown) second)

@@ -25,7 +25,7 @@ use Rattle.reg_tables.proofs.MeaningLaws.{steps_of_deposit, steps_read}
 use Rattle.reg_tables.proofs.PutLaws.{less}
 use Rattle.reg_tables.specs.Rows.{columns_3, step_table, step_pair, placed_rows, is_of, rows_under}
 use Rattle.reg_tables.proofs.AnswersLaws.{passes, shown_of, answers}
-use Rattle.reg_tables.proofs.ReadsLaws.{and_true, eq_int}
+use Rattle.reg_tables.proofs.ReadsLaws.{and_true, eq_int, under_shown}
 
 abbrev by_pair : Row → Output
 by_pair c = (column c 0 ∷ column c 1 ∷ [], column c 0 ∷ column c 1 ∷ [])
@@ -93,20 +93,6 @@ reads_steps old new n steps rows has up holds h =
     (map step_entry steps) a.ordered (steps_rise steps up) mine a.sorted in
     a.shown ∙ ap (map (λ (o : Output). o.1)) ordered ∙ step_entries_show steps
 
-steps_shown : (n : ℕ) (rows : List Row)
-    → map (λ (o : Output). o.1) (map by_pair (rows_under n (map columns_3 rows))) ≡ rows_under n (map columns_3 rows)
-steps_shown n [] = refl
-steps_shown n (r ∷ rows) = go (is_of n (columns_3 r)) (steps_shown n rows)
-  where
-    go : (b : Bool) → map (λ (o : Output). o.1) (map by_pair (rows_under n (map columns_3 rows)))
-        ≡ rows_under n (map columns_3 rows)
-        → map (λ (o : Output). o.1) (map by_pair (map (drop 1)
-        (if b then columns_3 r ∷ filter (is_of n) (map columns_3 rows) else filter (is_of n) (map columns_3 rows))))
-        ≡ map (drop 1) (if b then columns_3 r ∷ filter (is_of n) (map columns_3 rows)
-        else filter (is_of n) (map columns_3 rows))
-    go true h = ap (λ all. drop 1 (columns_3 r) ∷ all) h
-    go false h = h
-
 -- Where the query shows these rows, the table holds them under the number, and no others.
 pub holds_steps : (old new : State) (n : ℕ) (rows : List Row) → HasTables old.now.schema
     → Shown select_steps (Int (pos n) ∷ []) old new rows → IsPermutation rows (rows_under n (step_table old.now.trees))
@@ -116,7 +102,8 @@ holds_steps old new n rows has h =
     let same : IsPermutation (map by_pair (rows_under n (step_table old.now.trees))) a.ordered =
     subst (λ all. IsPermutation all a.ordered) (steps_selected n (old.now.trees 6)) a.same in
     let second = IsPermutation-map (λ (o : Output). o.1) _ _ same in
-    IsPermutation-sym _ _ (subst₂ IsPermutation (steps_shown n (old.now.trees 6)) (sym a.shown) second)
+    IsPermutation-sym _ _ (subst₂ IsPermutation (under_shown by_pair columns_3 (λ r. refl) n (old.now.trees 6))
+    (sym a.shown) second)
 
 -- ---- the rows of an answer give back what was kept
 

@@ -5,7 +5,7 @@ use Rattle.sqlite.specs.Order.{Row}
 use Rattle.sqlite.specs.Effect.{Database, IsDatabase}
 use Rattle.reg_store.specs.declared.keep.KeptRow.{KeptRow}
 use Rattle.reg_store.specs.Sent.{Sent}
-use Rattle.reg_tables.specs.Tables.{meta, deposits, lines, steps, register_schema}
+use Rattle.reg_tables.specs.Tables.{register_schema}
 use Rattle.reg_tables.specs.Rows.{columns_5, columns_3, line_table, line_rows, step_table, step_rows, given_deposit}
 use Rattle.reg_tables.specs.Rows.{deposit_table, mark_column, mark_row, IsMore}
 

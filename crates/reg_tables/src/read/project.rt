@@ -1,6 +1,6 @@
 //! Reads the row of PROJ of a deposit.
 
-ghost use Rattle.std.specs.Prelude.{◌≡◌, ◌≢◌, false, take, Ok, IfOk, IfErr};
+ghost use Rattle.std.specs.Prelude.{◌≡◌, ◌≢◌, false, take, IfOk, IfErr};
 ghost use Rattle.sqlite.specs.Held.{state};
 ghost use Rattle.reg_tables.specs.Quiet.{IsIdle, IsStill};
 ghost use Rattle.reg_tables.specs.Found.{OfLines};
@@ -12,7 +12,7 @@ use crate::read::lines::read_lines;
 use crate::read::rows::KeptLines;
 use reg_store::{KeepError, KeptRow, ProjectRow, project_in};
 use sqlite::{Alter, Connection, params};
-use std::alloc::{AllocError, Global};
+use std::alloc::Global;
 
 /// The row of PROJ of a deposit. Where PROJ is the first group of its file no other row is read than the first ones.
 #[tactic(auto, using(crate::proofs::QuietLaws::quiet_then, crate::proofs::QuietLaws::quiet_read, crate::proofs::QuietLaws::idle_then))]
@@ -27,27 +27,13 @@ pub(crate) fn read_project<S: Alter>(
     ensures refused { IfErr result (λ e. e ≢ KeepError.Full) }
     ensures quiet { IsStill (state S.Store conn.old) (state S.Store conn.new) (fails result) }
 {
-    match front_project(conn, alloc, number)? {
+    let front = read_front(conn, alloc, number)?;
+    match project_among(alloc, &front)? {
         Some(found) => Ok(Some(found)),
-        None => search_project(conn, alloc, number),
-    }
-}
-
-/// The row of PROJ of a deposit, if the first rows of its file have it.
-fn front_project<S: Alter>(
-    conn: &mut Connection<S>,
-    alloc: Global,
-    number: u32,
-) -> Result<Option<ProjectRow>, KeepError>
-    requires idle { IsIdle (state S.Store conn.old) }
-    ensures found { OfLines result number (λ file found. found ≡ project_of (take 5 file))
-        (state S.Store conn.old) (state S.Store conn.new) }
-    ensures refused { IfErr result (λ e. e ≢ KeepError.Full) }
-    ensures quiet { IsStill (state S.Store conn.old) (state S.Store conn.new) (fails result) }
-{
-    match read_front(conn, alloc, number) {
-        Ok(rows) => or_no_memory(project_in(alloc, &rows)),
-        Err(error) => Err(error),
+        None => {
+            let rows = read_lines(conn, alloc, number)?;
+            project_among(alloc, &rows)
+        }
     }
 }
 
@@ -77,33 +63,13 @@ fn read_front<S: Alter>(
     }
 }
 
-/// The row of PROJ of a deposit, among all rows of its file.
-fn search_project<S: Alter>(
-    conn: &mut Connection<S>,
-    alloc: Global,
-    number: u32,
-) -> Result<Option<ProjectRow>, KeepError>
-    requires idle { IsIdle (state S.Store conn.old) }
-    ensures found { OfLines result number (λ file found. found ≡ project_of file)
-        (state S.Store conn.old) (state S.Store conn.new) }
-    ensures refused { IfErr result (λ e. e ≢ KeepError.Full) }
-    ensures quiet { IsStill (state S.Store conn.old) (state S.Store conn.new) (fails result) }
-{
-    match read_lines(conn, alloc, number) {
-        Ok(rows) => or_no_memory(project_in(alloc, &rows)),
-        Err(error) => Err(error),
-    }
-}
-
-/// What was read, or `NoMemory`.
-fn or_no_memory(
-    read: Result<Option<ProjectRow>, AllocError>,
-) -> Result<Option<ProjectRow>, KeepError>
-    ensures read { IfOk result (λ found. read ≡ Ok found) }
+/// The row of PROJ among these rows.
+fn project_among(alloc: Global, rows: &[KeptRow]) -> Result<Option<ProjectRow>, KeepError>
+    ensures found { IfOk result (λ found. found ≡ project_of rows.now) }
     ensures lives { fails result ≡ false }
     ensures refused { IfErr result (λ e. e ≢ KeepError.Full) }
 {
-    match read {
+    match project_in(alloc, rows) {
         Ok(found) => Ok(found),
         Err(_) => Err(KeepError::NoMemory),
     }
