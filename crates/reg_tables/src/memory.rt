@@ -1,5 +1,4 @@
-//! What is known of the deposits without the tables: of each its head and what was read of it, and the rows and steps
-//! that were read last.
+//! What is known of the deposits without the tables: their heads, and what was read of them last.
 
 ghost use Rattle.std.specs.Prelude.{◌≡◌, ◌≢◌, ◌↔◌, ◌+◌, ◌++◌, ◌∷◌, ◌-◌, ◌<◌, ◌≤◌, [], List, length, false, Some, Err};
 ghost use Rattle.std.specs.Prelude.{slice_get, IsTrue, IfOk, IfErr, IfSome};
