@@ -29,19 +29,19 @@ fn left_to<C: Clock>(clock: &C, end: Instant) -> io::Result<Duration> {
 
 /// What a peer sends up to an end.
 #[derive(Drop)]
-pub(crate) struct Until<'s, C> {
-    clock: &'s C,
+pub(crate) struct Until<'c, 's, C> {
+    clock: &'c C,
     stream: &'s TcpStream,
     end: Instant,
 }
 
-impl<'s, C: Clock> Until<'s, C> {
-    pub(crate) fn new(end: Instant, clock: &'s C, stream: &'s TcpStream) -> Self {
+impl<'c, 's, C: Clock> Until<'c, 's, C> {
+    pub(crate) fn new(end: Instant, clock: &'c C, stream: &'s TcpStream) -> Self {
         Until { clock, stream, end }
     }
 }
 
-impl<C: Clock> Read for Until<'_, C> {
+impl<C: Clock> Read for Until<'_, '_, C> {
     fn read(&mut self, buf: &mut [u8]) -> io::Result<usize> {
         let left = left_to(self.clock, self.end)?;
         self.stream.set_read_timeout(Some(left))?;
@@ -52,18 +52,18 @@ impl<C: Clock> Read for Until<'_, C> {
 
 /// What a peer sends up to an end, of which the first bytes are held.
 #[derive(Drop)]
-pub(crate) struct Received<'s, 'f, C> {
-    bytes: Until<'s, C>,
+pub(crate) struct Received<'c, 's, 'f, C> {
+    bytes: Until<'c, 's, C>,
     front: &'f mut Front,
 }
 
-impl<'s, 'f, C: Clock> Received<'s, 'f, C> {
-    pub(crate) fn new(bytes: Until<'s, C>, front: &'f mut Front) -> Self {
+impl<'c, 's, 'f, C: Clock> Received<'c, 's, 'f, C> {
+    pub(crate) fn new(bytes: Until<'c, 's, C>, front: &'f mut Front) -> Self {
         Received { bytes, front }
     }
 }
 
-impl<C: Clock> Read for Received<'_, '_, C> {
+impl<C: Clock> Read for Received<'_, '_, '_, C> {
     fn read(&mut self, buf: &mut [u8]) -> io::Result<usize> {
         let count = self.bytes.read(buf)?;
         self.front.add(&buf[..count]);
