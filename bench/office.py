@@ -130,6 +130,8 @@ def behind_nginx(program, folder, seconds):
 
 
 def main():
+    if len(sys.argv) < 2:
+        sys.exit(__doc__)
     program, seconds = sys.argv[1], float(sys.argv[2]) if len(sys.argv) > 2 else 10
     with tempfile.TemporaryDirectory(prefix="servers") as folder:
         idle(program, folder)

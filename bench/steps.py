@@ -29,6 +29,8 @@ def file_of(rows):
 
 
 def main():
+    if len(sys.argv) < 2:
+        sys.exit(__doc__)
     program, rows = os.path.abspath(sys.argv[1]), int(sys.argv[2]) if len(sys.argv) > 2 else 2000
     with tempfile.TemporaryDirectory() as folder:
         place, data = register.Place(program, folder, limit_memory), file_of(rows)

@@ -672,6 +672,8 @@ def cases(place, seed, numbers):
 
 
 def main():
+    if len(sys.argv) < 2:
+        sys.exit(__doc__)
     count, seed, first = (int(sys.argv[n]) if len(sys.argv) > n else usual for n, usual in ((2, 300), (3, 1), (4, 1)))
     servers.limit_memory()
     folder = tempfile.mkdtemp(prefix="registers")

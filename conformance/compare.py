@@ -47,6 +47,8 @@ def change(data, chance):
 
 
 def main():
+    if len(sys.argv) < 2:
+        sys.exit(__doc__)
     program = os.path.abspath(sys.argv[1])
     count, seed, phases = (int(sys.argv[n]) if len(sys.argv) > n else usual for n, usual in ((2, 500), (3, 1), (4, 5)))
     names = sorted(glob.glob(os.path.join(here, "files", "*.ags")))

@@ -371,6 +371,8 @@ KINDS = {"file": (by_words, file_turn), "policy": (by_words, policy_turn), "call
 
 
 def main():
+    if len(sys.argv) < 2:
+        sys.exit(__doc__)
     count, seed = (int(sys.argv[n]) if len(sys.argv) > n else usual for n, usual in ((2, 300), (3, 1)))
     servers.limit_memory()
     files, names, failed, asked = os.path.join(os.path.dirname(os.path.abspath(__file__)), "files"), [], 0, 0

@@ -386,6 +386,8 @@ def thousand(place):
 
 
 def main():
+    if len(sys.argv) < 2:
+        sys.exit(__doc__)
     seconds = float(sys.argv[2]) if len(sys.argv) > 2 else 0.01
     servers.limit_memory()
     folder = tempfile.mkdtemp(prefix="limits")

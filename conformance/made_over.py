@@ -64,6 +64,8 @@ def by_sqlite3(place, *words, given=b""):
 
 
 def main():
+    if len(sys.argv) < 2:
+        sys.exit(__doc__)
     if servers.lacking("sqlite3"):
         print("no sqlite3 on this machine, so nothing is tried")
         print("0 passed, 0 failed")

@@ -189,6 +189,8 @@ def ended(place, count, chance):
 
 
 def main():
+    if len(sys.argv) < 2:
+        sys.exit(__doc__)
     count, seed = (int(sys.argv[n]) if len(sys.argv) > n else usual for n, usual in ((2, 30), (3, 1)))
     with tempfile.TemporaryDirectory(prefix="migrate") as folder:
         place = Place(sys.argv[1], folder)

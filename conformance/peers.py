@@ -391,6 +391,8 @@ def by_clock(place):
 
 
 def main():
+    if len(sys.argv) < 2:
+        sys.exit(__doc__)
     passed = failed = 0
     for part in (one_by_one, many, refused, failures, log, by_clock):
         with tempfile.TemporaryDirectory(prefix="peers") as folder:

@@ -657,6 +657,8 @@ def told(program, names, seed, number):
 
 
 def main():
+    if len(sys.argv) < 2:
+        sys.exit(__doc__)
     program = os.path.abspath(sys.argv[1])
     count, seed, first = (int(sys.argv[n]) if len(sys.argv) > n else usual for n, usual in ((2, 300), (3, 1), (4, 1)))
     files = os.path.join(os.path.dirname(os.path.abspath(__file__)), "files")

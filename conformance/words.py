@@ -591,6 +591,8 @@ def make_private(folder):
 
 
 def main():
+    if len(sys.argv) < 2:
+        sys.exit(__doc__)
     passed = failed = 0
     plays = [lambda folder, scene=scene: folder.play(scene) for scene in SCENES]
     plays.append(lambda folder: folder.hold("", REFUSED))  # an empty word is no line

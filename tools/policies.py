@@ -264,11 +264,21 @@ def rule_warnings(rules, callers, words):
         yield from ((rule["number"], text) for text in told if text)
 
 
+def may_show_project(rule, earlier, words):
+    """Whether a rule may permit rows of PROJ that no earlier rule decides."""
+    is_of_rows = rule["effect"] == "permit" and rule.get("verb", "see") == "see"
+    is_of_project = rule.get("group", "PROJ") == "PROJ"
+    is_known = "heading" not in rule or rule["heading"].encode() in words.order(b"PROJ")
+    return is_of_rows and is_of_project and is_known and decides_before({**rule, "group": "PROJ"}, earlier) is None
+
+
 def warnings(rules, callers, words):
     """Each warning as a line."""
     found = [f"rule {number} {text}" for number, text in rule_warnings(rules, callers, words)]
     if not any(rule["effect"] == "permit" and rule.get("verb", "see") == "see" for rule in rules):
         found.append("no rule permits see: no row of a data group is shown to anybody, and every listing is empty")
+    elif not any(may_show_project(rule, rules[:index], words) for index, rule in enumerate(rules)):
+        found.append("no rule permits see of PROJ: every listing is empty, and every extract is unknown")
     short = [caller for token, caller in callers.items() if len(token) < SHORT_TOKEN]
     if short:
         found.append(f"{len(short)} of {len(callers)} tokens have fewer than {SHORT_TOKEN} characters:"

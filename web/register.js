@@ -14,7 +14,7 @@ const SENTENCES = {
   "too large": "The file is longer than the register takes. Split it into files that are clean each for itself.",
   "unknown": "There is no such deposit in this project, or none that you may see.",
   "full": "The register holds as many deposits as it may. Tell whoever runs it.",
-  "out of memory": "The register ran out of memory. Nothing was done: send it again later, and tell whoever runs it.",
+  "out of memory": "The register ran out of memory. It may be done: send it again later, tell whoever runs it.",
   "store failed": "The register could not write. A deposit is there whole or not at all: tell whoever runs it, then send the file again. It has the same number if it is there.",
 };
 const BY_STATUS = {

@@ -18,6 +18,7 @@ import http.client
 import io
 import json
 import os
+import re
 import sys
 import urllib.parse
 from dataclasses import asdict, dataclass
@@ -28,8 +29,8 @@ DEFINITIONS = ("TRAN", "ABBR", "UNIT", "TYPE", "DICT")
 
 @dataclass(frozen=True)
 class Finding:
-    """A broken rule: its code (`2a`, `10c`), the line from 1 (0: the file as a whole), and the group, heading or value
-    that it speaks of, or nothing."""
+    """A broken rule: its code (`2a`, `10c`), the line from 1 (0: the file as a whole), and the group or heading that
+    it speaks of, or nothing."""
     code: str
     line: int
     subject: str
@@ -111,6 +112,8 @@ class Register:
         parts = urllib.parse.urlsplit(url)
         if parts.scheme not in ("http", "https") or not parts.hostname:
             raise ValueError(f"not a URL of http or https: {url}")
+        if not re.fullmatch("[!-~]{1,64}", token):
+            raise ValueError("a token is 1 to 64 characters from ! to ~")
         self.project, self.timeout = project, timeout
         self._token, self._parts = token, parts
 
@@ -134,8 +137,8 @@ class Register:
 
     def extract(self, number: int, groups: Iterable[str] = ()) -> bytes:
         """The rows of a deposit that this caller is shown, of these groups with all that they belong to or link to, or
-        of all; an AGS4 file."""
-        names = ",".join(groups)
+        of all; an AGS4 file. A text is one group, or more with commas between them."""
+        names = groups if isinstance(groups, str) else ",".join(groups)
         return self._request("GET", f"deposits/{number}", None, {"groups": names} if names else {})
 
     def withdraw(self, number: int) -> None:
@@ -145,8 +148,9 @@ class Register:
 
     def _json(self, method: str, path: str, data: Optional[bytes] = None,
               query: Optional[Dict[str, str]] = None) -> Dict[str, Any]:
+        answer = self._request(method, path, data, query or {})
         try:
-            return json.loads(self._request(method, path, data, query or {}))
+            return json.loads(answer)
         except ValueError:
             raise NotARegister("the answer is no JSON") from None
 
@@ -262,6 +266,9 @@ def main(words: Optional[List[str]] = None) -> int:
     except (OSError, http.client.HTTPException, NotARegister) as error:
         print(f"groundreg: {error}", file=sys.stderr)
         return 6
+    except ValueError as error:
+        print(f"groundreg: {error}", file=sys.stderr)
+        return 4
 
 
 if __name__ == "__main__":

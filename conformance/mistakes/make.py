@@ -158,7 +158,7 @@ def of_lines():
     degree = TEXT.replace("Soft CLAY", "Soft CLAY dipping 20\u00b0, 5 m\u00b2").encode()
     yield ("degree_sign_in_utf8", degree,
            1, 1, ("1", line_of('"DATA","TP103","0.00"'), "-"),
-           "U+00B0 degree sign: write deg;U+00B2 superscript two: write 2;UTF-8")
+           "U+00B0 degree sign: write deg;U+00B2 superscript two: write 2;UTF-8;writes ? for some")
     quotes = TEXT.replace("Firm brown CLAY", "Firm \u2018brown\u2019 CLAY \u2013 sandy").encode()
     yield ("typographic_quotes_and_dash", quotes,
            1, 1, ("1", line_of('"DATA","BH101","0.60"'), "-"),
@@ -170,11 +170,15 @@ def of_lines():
            1, 1, ("1", line_of('"DATA","BH101","0.00"'), "-"),
            "U+00A0 no-break space: write a space")
     yield ("mark_twice", b"\xef\xbb\xbf\xef\xbb\xbf" + TEXT.encode(),
-           2, 2, ("1", 1, "-"),
+           2, 1, ("1", 1, "-"),
+           "U+FEFF;take it out")
+    joined = TEXT.encode().replace(b'"GROUP","GEOL"', b'\xef\xbb\xbf"GROUP","GEOL"')
+    yield ("mark_of_a_file_joined_on", joined,
+           2, 1, ("5", GEOL, "-"),
            "U+FEFF;take it out")
     yield ("utf16_of_a_spreadsheet", b"\xff\xfe" + TEXT.encode("utf-16-le"),
            None, 1, ("1", 1, "-"),
-           "UTF-16;iconv -f UTF-16")
+           "UTF-16;then look for ?: iconv -f UTF-16")
     yield ("workbook_instead_of_text", b"PK\x03\x04\x14\x00\x06\x00\x08\x00\x00\x00" + bytes(range(256)) * 4,
            None, 1, ("2a", 1, "-"),
            "workbook")
@@ -263,7 +267,7 @@ def of_order():
            f'The GROUP row is missing above the HEADING row in line {GEOL};Put the row "GROUP","GEOL"')
     yield ("file_cut_off", joined(lines[:LNMC + 1]).encode() + b"\r\n",
            1, 1, ("2b", LNMC + 1, "-"),
-           "The file ends after the HEADING row;Was it cut off?")
+           "The file ends after the HEADING row;Was it cut off?;Get the whole file again")
     yield ("header_on_each_page", joined(lines[:GEOL + 4] + lines[GEOL:GEOL + 3] + lines[GEOL + 4:]).encode(),
            1, 1, ("2b", GEOL + 5, "-"),
            f"The GROUP row is missing above the HEADING row in line {GEOL + 5}")

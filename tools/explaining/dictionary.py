@@ -170,7 +170,7 @@ def main(given):
                                      description="What a dictionary has, before it is used, and what files have that "
                                                  "it lacks.")
     parser.add_argument("dictionary")
-    parser.add_argument("files", nargs="*")
+    parser.add_argument("files", nargs="*", default=[])
     asked = parser.parse_args(given)
     try:
         words, said, out, warnings = described(bytes_of(asked.dictionary), asked.dictionary)

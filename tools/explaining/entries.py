@@ -89,6 +89,9 @@ def form_fix(group, key, findings, example):
 def repeated_key(context, key, findings):
     _, name, entries = key
     group, keys, line = context.file.by_name[name], context.words.keys(name), findings[0].line
+    if not keys:
+        return "", [f"{ags.shown(name)} has no KEY headings in this dictionary."], \
+            "Name the dictionary that the file was checked under: --dictionary."
     first = context.listed.rows_by_key(name)[entries]
     row = context.file.by_line[line]
     here = [f"{at(findings).capitalize()} and line {first.line} of {ags.shown(name)} have the same KEY entries: "

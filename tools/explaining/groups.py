@@ -136,11 +136,11 @@ def missing_row(context, group, name, missing, also):
     if after is None:
         here = (f"The file ends after the {ags.shown(above.descriptor)} row in line {above.line}: {words} and DATA "
                 f"rows of {ags.shown(group.name)} are missing. Was it cut off?")
-    else:
-        place = (f"between line {above.line} ({ags.shown(above.descriptor)}) and line {after.line} "
-                 f"({ags.shown(after.descriptor)})")
-        here = (f"{name} has no {words} row{'' if len(missing) == 1 else 's'}: "
-                f"{'it belongs' if len(missing) == 1 else 'they belong'} {place}.")
+        return words, [here] + also, "Get the whole file again; if it is whole, add the missing rows."
+    place = (f"between line {above.line} ({ags.shown(above.descriptor)}) and line {after.line} "
+             f"({ags.shown(after.descriptor)})")
+    here = (f"{name} has no {words} row{'' if len(missing) == 1 else 's'}: "
+            f"{'it belongs' if len(missing) == 1 else 'they belong'} {place}.")
     items = len(group.headings) or len(above.items)
     example = {b"UNIT": [b""] * items, b"TYPE": [b"X"] * items}.get(missing[0])
     fix = None

@@ -14,6 +14,8 @@ def key(context, finding):
         first, last = context.broken[line]
         if code == "5" or context.file.ends[line - 1] == "LF" != context.file.ends[last - 1] and line < last:
             return "5", "over lines"
+    if code == "5" and is_row_but_for_marks(context.file.line(line)):
+        return ("1",)
     if code == "5":
         return "5", context.mistake(line)[0]
     if code == "6":
@@ -21,6 +23,11 @@ def key(context, finding):
     if code == "3":
         return "3", descriptor(context.file, line)
     return (code,)
+
+
+def is_row_but_for_marks(content):
+    """Whether a line is a row once its marks EF BB BF are taken out, which Rule 1 finds too."""
+    return ags.MARK in content and ags.fields_of(content.replace(ags.MARK, b"")) is not None
 
 
 def descriptor(file, line):
@@ -54,7 +61,7 @@ def beyond_ascii(context, key, findings):
     if context.file.has_mark and encoding == "UTF-8" and "\ufeff" in text[1:]:
         here.append("One mark EF BB BF is passed over at the start of the file alone.")
     codepage = "WINDOWS-1252" if encoding == "Windows-1252" else "UTF-8"
-    fix = f"Write each in ASCII, as named here, or all at once: iconv -f {codepage} -t ASCII//TRANSLIT FILE > NEW"
+    fix = f"Write each in ASCII, as named here. iconv -f {codepage} -t ASCII//TRANSLIT writes ? for some."
     return encoding, here, fix
 
 
