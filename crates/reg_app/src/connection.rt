@@ -3,7 +3,7 @@
 use crate::front::{Front, MOST_HELD};
 use crate::moment::Moment;
 use crate::serving::Serving;
-use crate::timed::{Received, SentBytes, Until, end_of};
+use crate::timed::{Received, SentBytes, end_of};
 use ags_rows::LIMIT;
 use reg_desk::Desk;
 use reg_http::{Tally, serve_one};
@@ -14,21 +14,18 @@ use std::io::Read;
 use std::net::{Shutdown, TcpListener, TcpStream};
 use std::time::{Clock, Duration, Instant};
 
-/// Accepts a connection and serves it, on the day of the clock where no other is given. The front has the first bytes
-/// that came over it.
+/// Accepts a connection and serves it, on the day of the clock where no other is given.
 pub(crate) fn serve_next<K: Keep, C: Clock>(
     alloc: Global,
     clock: &C,
     listener: &TcpListener,
     desk: &mut Desk<K>,
     serving: &Serving<'_>,
-    front: &mut Front,
 ) -> Outcome {
     let accepted = listener.accept();
     let mut outcome = Outcome::new(Moment::now(clock));
-    front.clear();
     if let Ok((stream, _)) = accepted {
-        let _served = serve_stream(alloc, clock, &stream, desk, serving, front, &mut outcome);
+        let _served = serve_stream(alloc, clock, &stream, desk, serving, &mut outcome);
         if outcome.status.is_some() {
             let _ended = drain_peer(clock, &stream);
         }
@@ -45,6 +42,8 @@ pub(crate) struct Outcome {
     pub(crate) status: Option<u16>,
     /// Whether the reply is that the store failed.
     pub(crate) is_store_failed: bool,
+    /// The first bytes that came.
+    pub(crate) front: Front,
     /// How many bytes were sent.
     pub(crate) sent: u64,
     /// How long it took to read the request and to write the reply, in milliseconds.
@@ -58,6 +57,7 @@ impl Outcome {
             moment,
             status: None,
             is_store_failed: false,
+            front: Front::new(),
             sent: 0,
             millis: 0,
         }
@@ -71,7 +71,6 @@ fn serve_stream<K: Keep, C: Clock>(
     stream: &TcpStream,
     desk: &mut Desk<K>,
     serving: &Serving<'_>,
-    front: &mut Front,
     outcome: &mut Outcome,
 ) -> io::Result<()> {
     let Some(day) = serving.day.or(outcome.moment.map(|moment| moment.day)) else {
@@ -79,7 +78,7 @@ fn serve_stream<K: Keep, C: Clock>(
     };
     let start = Instant::now(clock)?;
     let end = end_of(clock, serving.patience)?;
-    let mut received = Received::new(Until::new(end, clock, stream), front);
+    let mut received = Received::until(end, clock, stream);
     let mut sent = SentBytes::within(serving.patience, clock, stream);
     let served = serve_one(
         alloc,
@@ -92,6 +91,7 @@ fn serve_stream<K: Keep, C: Clock>(
     outcome.status = served.ok().map(|served| served.status);
     outcome.is_store_failed = sent.is_store_failed();
     outcome.sent = sent.count();
+    outcome.front = received.into_front();
     outcome.millis = u64::try_from(start.elapsed(clock)?.as_millis()).unwrap_or(u64::MAX);
     Ok(())
 }
@@ -101,7 +101,7 @@ fn serve_stream<K: Keep, C: Clock>(
 fn drain_peer<C: Clock>(clock: &C, stream: &TcpStream) -> io::Result<()> {
     stream.shutdown(Shutdown::Write)?;
     let end = end_of(clock, Duration::from_secs(DRAINING))?;
-    let rest = Until::new(end, clock, stream);
+    let rest = Received::until(end, clock, stream);
     io::copy(&mut rest.take(MOST_DRAINED), &mut io::sink())?;
     Ok(())
 }

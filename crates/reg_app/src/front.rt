@@ -20,11 +20,6 @@ impl Front {
         }
     }
 
-    /// Forgets them, as a connection begins.
-    pub(crate) fn clear(&mut self) {
-        self.count = 0;
-    }
-
     /// How many bytes came.
     pub(crate) fn count(&self) -> u64 {
         self.count

@@ -2,7 +2,6 @@
 ghost use Rattle.std.specs.Prelude.{◌<◌};
 
 use crate::connection::Outcome;
-use crate::front::Front;
 use crate::moment::Moment;
 use itoa::Buffer;
 use reg_cli::{Fault, Watched};
@@ -32,17 +31,12 @@ impl<W: Write + Drop> Log<W> {
 
     /// Appends the line of a connection, and has it passed on: time, firm and role, method and path, status, bytes in
     /// and out, milliseconds. What is not known is `-`. No token is in it, since it has no field and no query.
-    pub(crate) fn append(
-        &mut self,
-        callers: &Callers,
-        outcome: &Outcome,
-        front: &Front,
-    ) -> Result<(), Fault> {
+    pub(crate) fn append(&mut self, callers: &Callers, outcome: &Outcome) -> Result<(), Fault> {
         self.line.clear();
         push_moment(&mut self.line, outcome.moment)?;
-        push_summary(&mut self.line, summary_of(callers, front.bytes()))?;
+        push_summary(&mut self.line, summary_of(callers, outcome.front.bytes()))?;
         push_outcome(&mut self.line, outcome.status)?;
-        push_number(&mut self.line, front.count())?;
+        push_number(&mut self.line, outcome.front.count())?;
         push_number(&mut self.line, outcome.sent)?;
         push_number(&mut self.line, outcome.millis)?;
         self.line.extend_from_slice(b"\n")?;

@@ -2,7 +2,6 @@
 
 use crate::commands::{Machine, StoreTask, use_store};
 use crate::connection::serve_next;
-use crate::front::Front;
 use crate::log::Log;
 use crate::progress::ProgressLines;
 use crate::stores::RegisterFile;
@@ -30,11 +29,10 @@ pub fn serve_on<K: Keep, C: Clock, W: Write, L: Write + Drop>(
     out: &mut Watched<W>,
     log: &mut Option<Log<L>>,
 ) -> Result<(), Fault> {
-    let mut front = Front::new();
     for _ in 0..serving.connections {
-        let outcome = serve_next(alloc, clock, listener, desk, serving, &mut front);
+        let outcome = serve_next(alloc, clock, listener, desk, serving);
         if let Some(log) = log {
-            log.append(serving.callers, &outcome, &front)?;
+            log.append(serving.callers, &outcome)?;
         }
         print_line(out, outcome.status)?;
         if serving.ends_on_failure && outcome.is_store_failed {

@@ -29,43 +29,35 @@ fn left_to<C: Clock>(clock: &C, end: Instant) -> io::Result<Duration> {
 
 /// What a peer sends up to an end.
 #[derive(Drop)]
-pub(crate) struct Until<'c, 's, C> {
-    clock: &'c C,
+pub(crate) struct Received<'s, C> {
+    clock: &'s C,
     stream: &'s TcpStream,
     end: Instant,
+    front: Front,
 }
 
-impl<'c, 's, C: Clock> Until<'c, 's, C> {
-    pub(crate) fn new(end: Instant, clock: &'c C, stream: &'s TcpStream) -> Self {
-        Until { clock, stream, end }
+impl<'s, C: Clock> Received<'s, C> {
+    pub(crate) fn until(end: Instant, clock: &'s C, stream: &'s TcpStream) -> Self {
+        Received {
+            clock,
+            stream,
+            end,
+            front: Front::new(),
+        }
+    }
+
+    /// The first bytes that came.
+    pub(crate) fn into_front(self) -> Front {
+        self.front
     }
 }
 
-impl<C: Clock> Read for Until<'_, '_, C> {
+impl<C: Clock> Read for Received<'_, C> {
     fn read(&mut self, buf: &mut [u8]) -> io::Result<usize> {
         let left = left_to(self.clock, self.end)?;
         self.stream.set_read_timeout(Some(left))?;
         let mut stream = self.stream;
-        stream.read(buf)
-    }
-}
-
-/// What a peer sends up to an end, of which the first bytes are held.
-#[derive(Drop)]
-pub(crate) struct Received<'c, 's, 'f, C> {
-    bytes: Until<'c, 's, C>,
-    front: &'f mut Front,
-}
-
-impl<'c, 's, 'f, C: Clock> Received<'c, 's, 'f, C> {
-    pub(crate) fn new(bytes: Until<'c, 's, C>, front: &'f mut Front) -> Self {
-        Received { bytes, front }
-    }
-}
-
-impl<C: Clock> Read for Received<'_, '_, '_, C> {
-    fn read(&mut self, buf: &mut [u8]) -> io::Result<usize> {
-        let count = self.bytes.read(buf)?;
+        let count = stream.read(buf)?;
         self.front.add(&buf[..count]);
         Ok(count)
     }
