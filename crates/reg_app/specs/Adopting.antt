@@ -5,7 +5,7 @@ use Rattle.reg_cli.specs.declared.failure.Failure.TheVariants.{Plain, Version}
 use Rattle.reg_tables.specs.declared.error.AdoptError.{AdoptError}
 use Rattle.reg_tables.specs.declared.error.AdoptError.TheVariants as adopts
 
--- what is refused for it
+-- the failure that is reported for it
 abbrev pub adopting : AdoptError → Failure
 adopting adopts.NotRegister = Plain faults.NotRegister
 adopting (adopts.Version number) = Version number

@@ -23,11 +23,11 @@ pub(crate) fn serve_next<K: Keep, C: Clock>(
     serving: &Serving<'_>,
 ) -> Outcome {
     let accepted = listener.accept();
-    let mut outcome = Outcome::new(Moment::now(clock));
+    let mut outcome = Outcome::new(alloc, Moment::now(clock));
     if let Ok((stream, _)) = accepted {
         let _served = serve_stream(alloc, clock, &stream, desk, serving, &mut outcome);
         if outcome.status.is_some() {
-            let _ended = drain_peer(clock, &stream);
+            let _ended = drain_peer(alloc, clock, &stream);
         }
     }
     outcome
@@ -52,12 +52,12 @@ pub(crate) struct Outcome {
 
 impl Outcome {
     /// That of a connection of which nothing came.
-    fn new(moment: Option<Moment>) -> Outcome {
+    fn new(alloc: Global, moment: Option<Moment>) -> Outcome {
         Outcome {
             moment,
             status: None,
             is_store_failed: false,
-            front: Front::new(),
+            front: Front::new(alloc),
             sent: 0,
             millis: 0,
         }
@@ -78,7 +78,7 @@ fn serve_stream<K: Keep, C: Clock>(
     };
     let start = Instant::now(clock)?;
     let end = end_of(clock, serving.patience)?;
-    let mut received = Received::until(end, clock, stream);
+    let mut received = Received::until(alloc, end, clock, stream);
     let mut sent = SentBytes::within(serving.patience, clock, stream);
     let served = serve_one(
         alloc,
@@ -98,10 +98,10 @@ fn serve_stream<K: Keep, C: Clock>(
 
 /// Ends a connection that has its reply: nothing more is written, and what the peer still sends is read and dropped, so
 /// that it has the reply before it finds the connection closed.
-fn drain_peer<C: Clock>(clock: &C, stream: &TcpStream) -> io::Result<()> {
+fn drain_peer<C: Clock>(alloc: Global, clock: &C, stream: &TcpStream) -> io::Result<()> {
     stream.shutdown(Shutdown::Write)?;
     let end = end_of(clock, Duration::from_secs(DRAINING))?;
-    let rest = Received::until(end, clock, stream);
+    let rest = Received::until(alloc, end, clock, stream);
     io::copy(&mut rest.take(MOST_DRAINED), &mut io::sink())?;
     Ok(())
 }

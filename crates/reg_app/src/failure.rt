@@ -6,7 +6,7 @@ ghost use Rattle.reg_app.specs.Adopting.{adopting};
 use reg_cli::{Failure, Fault};
 use reg_tables::AdoptError;
 
-/// What is refused where a store holds no register that can be opened, or migrated.
+/// The failure to report where a store holds no register that can be opened, or migrated.
 pub(crate) fn adopting<'w>(error: AdoptError) -> Failure<'w>
     ensures { result ≡ adopting error }
 {

@@ -1,22 +1,23 @@
 //! The first bytes that came over a connection.
-ghost use Rattle.std.specs.Prelude.{◌≤◌};
 
-/// How many bytes are held: as many as a head may have.
+use std::alloc::Global;
+
+/// How many bytes are held at most: as many as a head may have.
 pub(crate) const MOST_HELD: usize = 8192;
 
 /// How many bytes came, and the first of them.
 #[derive(Drop)]
 pub(crate) struct Front {
     count: u64,
-    held: [u8; MOST_HELD],
+    held: Vec<u8>,
 }
 
 impl Front {
     /// Of no bytes.
-    pub(crate) fn new() -> Front {
+    pub(crate) fn new(alloc: Global) -> Front {
         Front {
             count: 0,
-            held: [0; MOST_HELD],
+            held: Vec::new(alloc),
         }
     }
 
@@ -25,22 +26,18 @@ impl Front {
         self.count
     }
 
-    /// The first of them, at most as many as a head may have.
+    /// The first of them, at most as many as a head may have: fewer where memory for them was refused.
     pub(crate) fn bytes(&self) -> &[u8] {
-        &self.held[..self.held_count()]
+        &self.held
     }
 
-    fn held_count(&self) -> usize
-        ensures { result ≤ 8192 }
-    {
-        self.count.min(MOST_HELD as u64) as usize
-    }
-
-    /// Counts bytes, and holds them as far as there is room.
+    /// Counts bytes, and holds them as long as none before them is missing.
     pub(crate) fn add(&mut self, bytes: &[u8]) {
-        let start = self.held_count();
-        let size = bytes.len().min(MOST_HELD - start);
-        self.held[start..start + size].copy_from_slice(&bytes[..size]);
+        let held = self.held.len();
+        if held as u64 == self.count {
+            let size = bytes.len().min(MOST_HELD.saturating_sub(held));
+            let _held = self.held.extend_from_slice(&bytes[..size]);
+        }
         self.count = self.count.saturating_add(bytes.len() as u64);
     }
 }

@@ -4,6 +4,7 @@
 
 use crate::front::Front;
 use reg_http::is_store_failed_reply;
+use std::alloc::Global;
 use std::io;
 use std::io::{ErrorKind, Read, Write};
 use std::net::TcpStream;
@@ -37,12 +38,17 @@ pub(crate) struct Received<'s, C> {
 }
 
 impl<'s, C: Clock> Received<'s, C> {
-    pub(crate) fn until(end: Instant, clock: &'s C, stream: &'s TcpStream) -> Self {
+    pub(crate) fn until(
+        alloc: Global,
+        end: Instant,
+        clock: &'s C,
+        stream: &'s TcpStream,
+    ) -> Self {
         Received {
             clock,
             stream,
             end,
-            front: Front::new(),
+            front: Front::new(alloc),
         }
     }
 

@@ -24,7 +24,7 @@ module _ {W : Type 0} (writer : WriteGhosts W) where
       × (writer.contents (inner_of new) ≡ writer.contents (inner_of old)) × (has_failed new ≡ has_failed old)
 
 module _ {K W : Type 0} {keep : KeepGhosts K} (writer : WriteGhosts W) where
-  -- the desk was asked this once, and its answer was printed
+  -- the desk was called once with this request, and its answer was printed
   abbrev pub AsksDesk : Asked → Desk K keep → Desk K keep → Watched W → Watched W → Result ℕ Failure → Type 0
   AsksDesk request old new out out_after result =
       (answer : Answer) × AnsweredBy keep old request answer new × PrintsAnswer writer answer out out_after result

@@ -228,7 +228,7 @@ fn fault_of(error: Error) -> Fault {
 }
 
 /// The command of a form. The prover writes it out at each point of a function that holds one, and at most where it is
-/// handed on, so few functions do.
+/// passed on, so few functions do.
 fn command<'w>(alloc: Global, form: &Form) -> Result<Command<'w>, AllocError> {
     let mut command = Command::new(alloc, form.name)
         .disable_help_flag(true)

@@ -32,7 +32,7 @@ use Rattle.reg_desk.specs.View.{look_on, IsExtractOf, Sees}
 use Rattle.reg_desk.specs.Serving.{AsksStore, IsLineFor, text_answer, terms_at, OnlyReads, Serves, answer_of}
 use Rattle.reg_desk.proofs.Replies.{one_file}
 use Rattle.reg_desk.proofs.Bodies.{where_true}
-use Rattle.reg_desk.proofs.Serves.{is_no_failure, asks_of, replies_at_once, refused_serves, replies_serves, permitted_reply, denied_reply, permit_stands}
+use Rattle.reg_desk.proofs.Serves.{is_model_answer, asks_of, replies_at_once, refused_serves, replies_serves, permitted_reply, denied_reply, permit_stands}
 
 -- ---- a kept deposit
 
@@ -240,13 +240,13 @@ extract_unread keep rules caller project number groups day old new k e permit re
     refused_serves keep rules (extract caller project number groups day) old new e reads named asks.0 (λ s. asks)
 
 pub extract_replies : {K : Type 0} (keep : Ghosts K) (rules : List Rule) (caller : Caller) (project : List ℕ) (number : ℕ) (groups : List (List ℕ)) (day : ℤ) (old new : K) (k : ℕ) (answer : Answer)
-    → decided (terms_at keep rules old) caller project verbs.Extract day ≡ Permit k → OnlyReads keep old new false → is_no_failure answer ≡ true
+    → decided (terms_at keep rules old) caller project verbs.Extract day ≡ Permit k → OnlyReads keep old new false → is_model_answer answer ≡ true
     → (keep.is_sound new → ∥ IsDrawnFrom (terms_at keep rules old) caller project groups day (held number (keep.deposits old)) answer ∥₁)
     → Serves keep rules (extract caller project number groups day) old new answer
-extract_replies keep rules caller project number groups day old new k answer permit reads no_failure drawn =
+extract_replies keep rules caller project number groups day old new k answer permit reads from_model drawn =
     let terms = terms_at keep rules old in
     let state = keep.deposits old in
-    replies_serves keep rules (extract caller project number groups day) old new answer reads no_failure
+    replies_serves keep rules (extract caller project number groups day) old new answer reads from_model
     (λ s. ∥∥₁_map (drawn s) (permitted_reply (decided terms caller project verbs.Extract day) k (IsDrawnFrom terms caller project groups day (held number state)) answer permit))
     (λ s. inr (λ list change. change, refl)) (extract_asks terms state caller project number groups day k permit).0
 

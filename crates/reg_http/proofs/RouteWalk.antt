@@ -19,7 +19,7 @@ use Rattle.reg_http.proofs.SeekLemmas.{all_bytes, with_token, with_tokens, seek_
 abbrev Rows : Type 0
 Rows = RowsOf (RouteOf Page)
 
--- what the routes have after the project: from its slash on, and after its slash
+-- what the routes have after the slash that ends the project, and from that slash on
 abbrev after_project : Rows
 after_project = (codes "check", check_route) ∷ (codes "deposits/" ++ param_token ∷ [], deposit_route) ∷ (codes "deposits", deposits_route) ∷ []
 
@@ -217,15 +217,15 @@ parts_are_text path r text bytes e =
     let rest : AreBytes q = bytes_after front_bytes q (subst AreBytes front.1 bytes) in
     let project = project_step q r (seek_wild below q r (rest 0) front.2) in
     let n : ℕ = length (segment q) - 1 in
-    let rest_of_project = begins one_slash after_project (drop n q) r refl project.1 in
+    let past_project = begins one_slash after_project (drop n q) r refl project.1 in
     let is_q : drop 13 path ≡ q = ap (drop 13) front.1 in
     let sum : length path ≡ 13 + length q = ap length front.1 ∙ length-append front_bytes q in
     let end : project_end path ≡ 13 + n = ap (λ t. 13 + length (segment t) - 1) is_q ∙ omega (arith, project.0) in
     let left : length (drop n q) ≡ length q - n = length-drop n q in
-    let some : length (drop n q) ≡ suc (length rest_of_project.0) = ap length rest_of_project.1 in
+    let some : length (drop n q) ≡ suc (length past_project.0) = ap length past_project.1 in
     let before : get_or path 12 0 ≡ slash = ap (λ t. get_or t 12 0) front.1 in
     let at_end : get_or path (13 + n) 0 ≡ slash =
-    ap (λ t. get_or t (13 + n) 0) front.1 ∙ get_or-append-add front_bytes q n 0 ∙ sym (get_or-drop-at n q) ∙ ap (λ t. get_or t 0 0) rest_of_project.1 in
+    ap (λ t. get_or t (13 + n) 0) front.1 ∙ get_or-append-add front_bytes q n 0 ∙ sym (get_or-drop-at n q) ∙ ap (λ t. get_or t 0 0) past_project.1 in
     let cut : Cuts path = record {
       text = text;
       long = omega arith;
@@ -237,7 +237,7 @@ parts_are_text path r text bytes e =
     (⊎_elim
     (λ is. subst (λ s. AllText (taken s path)) (sym is) (deposits_text path cut))
     (λ found.
-    let rest_is : drop n q ≡ slash ∷ (codes "deposits/" ++ found.1) = rest_of_project.1 ∙ ap (λ t. slash ∷ t) found.2 in
+    let rest_is : drop n q ≡ slash ∷ (codes "deposits/" ++ found.1) = past_project.1 ∙ ap (λ t. slash ∷ t) found.2 in
     let count = ap length rest_is in
     let more = length-append (codes "deposits/") found.1 in
     let fits : project_end path + 10 ≤ length path = omega arith in
@@ -246,7 +246,7 @@ parts_are_text path r text bytes e =
     let next : 13 + (n + 9) + 1 ≡ project_end path + 10 = omega arith in
     let boundary = subst (IsCharBoundary path) next (IsCharBoundary-after_ascii path (13 + (n + 9)) text (omega arith) (omega arith)) in
     subst (λ s. AllText (taken s path)) (sym found.0) (deposit_text path cut fits boundary)))
-    (ends_of rest_of_project.0 r (bytes_after one_slash rest_of_project.0 (subst AreBytes rest_of_project.1 (λ k. omega (arith, get_or-drop n q k 0, rest (n + k))))) rest_of_project.2)
+    (ends_of past_project.0 r (bytes_after one_slash past_project.0 (subst AreBytes past_project.1 (λ k. omega (arith, get_or-drop n q k 0, rest (n + k))))) past_project.2)
   where
     get_or-drop-at : (m : ℕ) (l : List ℕ) → get_or (drop m l) 0 0 ≡ get_or l m 0
     get_or-drop-at m l = get_or-drop m l 0 0 ∙ ap (λ k. get_or l k 0) (omega arith)

@@ -312,12 +312,12 @@ module _ (callers : List Credential) (day : ℤ) where
   waits_body None left buf headers spans filled parts calls held small taken reads few = tt
   waits_body (Some bytes) None buf headers spans filled parts calls held small taken reads few = absurd taken
   waits_body (Some bytes) (Some rest) buf headers spans filled parts calls held small taken reads few =
-      let unread_bytes = drop spans.len (take filled buf) ++ rest in
+      let after_head = drop spans.len (take filled buf) ++ rest in
       let head = head_of bytes rest buf headers spans filled held small taken in
       let P : HeadParts → Type 0 = λ p. calls ≤ longest_head + body_reads (ask_of callers day p) in
       record {
-        headless = λ none. absurd (none held.head unread_bytes head);
+        headless = λ none. absurd (none held.head after_head head);
         headed = λ h more x.
-            (let same = request_unique bytes h held.head more unread_bytes x.reads head.reads in
+            (let same = request_unique bytes h held.head more after_head x.reads head.reads in
             subst P (reads held.head held.at ∙ ap head_parts (sym same.0)) few);
       }

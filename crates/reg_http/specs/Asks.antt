@@ -65,7 +65,7 @@ ask_of callers day parts =
     and_then (kind_in found.page parts.method) (λ kind.
     ask_kind callers day parts found kind))
 
--- the request with this body
+-- the request for what is sought, with this body
 abbrev pub asked_by : Sought → Asking → List ℕ → ℤ → Asked
 asked_by (deposit embargo) a body day = requests.deposit a.caller a.project embargo body day
 asked_by check a body day = requests.check a.caller a.project body day
@@ -73,5 +73,6 @@ asked_by listing a body day = requests.listing a.caller a.project day
 asked_by (extract number groups) a body day = requests.extract a.caller a.project number groups day
 asked_by (withdraw number) a body day = requests.withdraw a.caller a.project number day
 
+-- the request that is asked, with this body
 abbrev pub asked_with : Asking → List ℕ → ℤ → Asked
 asked_with a body day = asked_by a.sought a body day

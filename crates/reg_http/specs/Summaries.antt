@@ -1,4 +1,4 @@
--- What a log tells of a request.
+-- What a log reports of a request.
 use Rattle.std.specs.Prelude.{◌≡◌, ℕ, List, Ok, IfSome, codes}
 use Rattle.httparse.specs.Grammar.{RequestHead, ReadsRequest}
 use Rattle.reg_policy.specs.declared.callers.Credential.{Credential}

@@ -1,4 +1,4 @@
-//! Who asked what, as a log tells it.
+//! Who asked what, as a log reports it.
 ghost use Rattle.std.specs.Prelude.{IfSome};
 ghost use Rattle.reg_http.specs.Summaries.{SumsUp};
 

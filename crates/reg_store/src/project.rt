@@ -4,27 +4,8 @@ ghost use Rattle.std.specs.Prelude.{◌≡◌, IfOk};
 ghost use Rattle.reg_store.specs.Project.{project_of, targets_of};
 
 use crate::keep::{KeptRow, ProjectRow};
-use ags_text::copy;
+use crate::shared::SharedBytes;
 use std::alloc::{AllocError, Global};
-
-/// A row of PROJ with copies of two texts: the HEADING row of PROJ and the row itself. Its number counts the DATA rows
-/// of its file from 0.
-///
-/// It is refused only when out of memory.
-pub fn project_row(
-    alloc: Global,
-    number: u32,
-    headings: &[u8],
-    line: &[u8],
-) -> Result<ProjectRow, AllocError>
-    ensures { IfOk result (λ row. row ≡ record { number = number; headings = headings.now; line = line.now }) }
-{
-    Ok(ProjectRow {
-        number,
-        headings: copy(alloc, headings)?,
-        line: copy(alloc, line)?,
-    })
-}
 
 /// The row of PROJ among the rows of a file: its first DATA row of group PROJ, which is the only one where the file has
 /// no finding (Rule 13). It comes with the last HEADING row before it, and its number counts the DATA rows from 0.
@@ -50,6 +31,22 @@ pub fn project_in(alloc: Global, rows: &[KeptRow]) -> Result<Option<ProjectRow>,
         }
     }
     Ok(None)
+}
+
+/// A row of PROJ with copies of two texts: the HEADING row of PROJ and the row itself.
+fn project_row(
+    alloc: Global,
+    number: u32,
+    headings: &[u8],
+    line: &[u8],
+) -> Result<ProjectRow, AllocError>
+    ensures { IfOk result (λ row. row ≡ record { number = number; headings = headings.now; line = line.now }) }
+{
+    Ok(ProjectRow {
+        number,
+        headings: SharedBytes::copied(alloc, headings)?,
+        line: SharedBytes::copied(alloc, line)?,
+    })
 }
 
 /// The rows that the row has a step to, in the order of the steps.

@@ -10,7 +10,7 @@ ghost use Rattle.reg_tables.specs.Register.{deposits_in, KeepsIfClean, KeepsRegi
 
 use crate::memory::digests::digest_of;
 use crate::memory::recent::copy_rows;
-use crate::memory::{Memory, copy_project};
+use crate::memory::Memory;
 use crate::read::equal::read_equal;
 use crate::read::graph::read_graph;
 use crate::read::lines::read_lines;
@@ -166,12 +166,12 @@ impl<S: Alter> Keep for SqlKeep<S> {
 
     fn project_row(&mut self, n: u32) -> Result<Option<ProjectRow>, KeepError> {
         if let Some(row) = self.memory.held_project(n) {
-            let copied = copy_project(self.alloc, row)?;
-            return Ok(Some(copied));
+            let row = row.clone()?;
+            return Ok(Some(row));
         }
         let found = read_project(&mut self.connection, self.alloc, n);
         self.has_failed = has_store_error(&found);
-        self.memory.note_project(self.alloc, n, &found);
+        self.memory.note_project(n, &found);
         found
     }
 

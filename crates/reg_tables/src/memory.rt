@@ -20,7 +20,7 @@ use crate::memory::digests::{Digests, digest_of};
 use crate::memory::recent::{RecentGraph, RecentRows, small_graph, small_rows};
 use ags_links::Graph;
 use reg_policy::{Day, Name};
-use reg_store::{KeepError, KeptHead, KeptRow, ProjectRow, project_row};
+use reg_store::{KeepError, KeptHead, KeptRow, ProjectRow};
 use std::alloc::{AllocError, Global};
 
 /// What is known of the deposits.
@@ -225,13 +225,8 @@ impl Memory {
         }
     }
 
-    /// Keeps a copy of the row of PROJ that was read of deposit n, if it is short and there is room for it.
-    pub(crate) fn note_project(
-        &mut self,
-        alloc: Global,
-        n: u32,
-        read: &Result<Option<ProjectRow>, KeepError>,
-    )
+    /// Keeps the row of PROJ that was read of deposit n, if it is short and there is room for it.
+    pub(crate) fn note_project(&mut self, n: u32, read: &Result<Option<ProjectRow>, KeepError>)
         ensures { Remembers self.old self.new n (λ dictionary list. IfOk read.now (λ found.
             OfDeposit dictionary list n (HasProjectRow found))) }
     {
@@ -244,9 +239,9 @@ impl Memory {
         if self.projects >= MOST_PROJECTS || !is_short(row) || !self.is_known(n) {
             return;
         }
-        if let Ok(copied) = copy_project(alloc, row) {
+        if let Ok(row) = row.clone() {
             self.projects += 1;
-            self.known[n as usize - 1].project = Some(copied);
+            self.known[n as usize - 1].project = Some(row);
         }
     }
 
@@ -355,17 +350,5 @@ const MOST_BYTES: usize = 1_024;
 
 /// Whether the row is so short that it may be in memory.
 fn is_short(row: &ProjectRow) -> bool {
-    row.headings.len().saturating_add(row.line.len()) <= MOST_BYTES
-}
-
-/// A copy of the row of PROJ.
-pub(crate) fn copy_project(alloc: Global, row: &ProjectRow) -> Result<ProjectRow, AllocError>
-    ensures { IfOk result (λ copied. copied ≡ row.now) }
-{
-    project_row(
-        alloc,
-        row.number,
-        row.headings.as_slice(),
-        row.line.as_slice(),
-    )
+    row.headings.as_slice().len().saturating_add(row.line.as_slice().len()) <= MOST_BYTES
 }

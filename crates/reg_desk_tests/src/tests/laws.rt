@@ -50,7 +50,7 @@ fn four_of<'a>(
     ]
 }
 
-/// What they are answered.
+/// What the four requests are answered.
 static ANSWERS: [Want; 4] = [LISTED, SECOND, Want::Gives(B_SHOWN), Want::Gives(A)];
 
 /// Whether four requests, one after the other, are answered so.
@@ -63,7 +63,7 @@ fn answers_each<K: Keep>(
     Ok(answers.len() == 4 && count_wanted(alloc, &answers, &ANSWERS)? == 4)
 }
 
-/// Whether those four requests are.
+/// Whether Echo's and Foxtrot's four requests are answered so.
 fn answers_four<K: Keep>(
     alloc: Global,
     desk: &mut Desk<K>,
@@ -78,7 +78,7 @@ fn answers_four<K: Keep>(
     }
 }
 
-/// Whether they are once Delta has a receipt for this body.
+/// Whether those four requests are answered so after Delta has deposited this body.
 pub fn answers_after_deposit<K: Keep>(
     alloc: Global,
     desk: &mut Desk<K>,

@@ -134,7 +134,7 @@ fn write_comma(out: &mut Vec<u8>, place: usize) -> Result<(), AllocError>
     Ok(())
 }
 
-/// Writes a text, after the one that comes before it.
+/// Writes two texts, one after the other.
 fn write_both(out: &mut Vec<u8>, before: &[u8], text: &[u8]) -> Result<(), AllocError>
     ensures { OnOk result (out.new.items ≡ out.old.items ++ before.now ++ text.now) }
 {
