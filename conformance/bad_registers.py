@@ -8,8 +8,8 @@ way that the definition of a register names, and COUNT times at random: bytes of
 length, a row, a cell. What the tables then hold is read by Python's sqlite3 and held against the definition, spelled
 out below (`held_by`), and the program has to answer:
 - where a row or a cell was changed: `not a register` or `register version N` as the definition has it, `store failed`
-instead of `not a register`, or the listing and the extracts that the reference model (machine.py) gives for the
-deposits that the tables hold;
+instead of `not a register`, or the listing and the extracts that the second implementation (machine.py) gives for
+the deposits that the tables hold;
 - where the tables themselves, or bytes, were changed: one of these three faults, or those listings and extracts; where
 sqlite3 cannot read the file, a fault, or the listing and the extracts from before the change.
 Of a register of format 1 `migrate` has to answer so: one of these faults, or `migrated`, and then the register has the
@@ -264,7 +264,7 @@ class Place(servers.Place):
             return [*replies, server.rest()]
 
     def wanted(self, held):
-        """What the reference model answers to the same."""
+        """What the second implementation answers to the same."""
         register = machine.Register(held[0])
         register.deposits = held[1]
         self.computer.files["held"] = register

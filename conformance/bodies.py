@@ -1,6 +1,6 @@
 #!/usr/bin/env python3
-"""Random files without findings, policies and days, and what the reference model (machine.py) or the program makes of
-them.
+"""Random files without findings, policies and days, and what the second implementation (machine.py, the model) or the
+program makes of them.
 
 usage: bodies.py [COUNT [SEED [PROGRAM]]]     the last line is 'N passed, M failed'
 
@@ -161,8 +161,8 @@ def held(text, deposit):
 
 
 class Model:
-    """Registers of one deposit each on the reference model, and what it answers: a listing, then an extract for each
-    list of groups."""
+    """Registers of one deposit each on the model, and what it answers: a listing, then an extract for each list of
+    groups."""
 
     def seen_of(self, text, deposit, policy_text, caller, day, asked):
         register, rules = held(text, deposit), machine.read_policy(policy_text)

@@ -1,6 +1,6 @@
 #!/usr/bin/env python3
 """Hostile input: files, policies, callers, dictionaries, heads and bodies of requests, changed at random, and what the
-program and the reference model (machine.py) answer to each.
+program and the second implementation (machine.py, the model) answer to each.
 
 usage: hostile.py PROGRAM [COUNT [SEED [KIND[:FIRST]..]]]     the last line is 'N passed, M failed'
 

@@ -9,8 +9,8 @@ Above that are the seconds of each start that took more than a tenth of one.
 SECONDS (a hundredth) is what the slow peer waits after each of its bytes. Peers speak to one `serve`, and after each of
 them a listing is requested, which has to be the one from before. `serve` has to end with 0 after its K connections,
 with the statuses that belong to them. Of a thousand connections one after the other each has to be answered as the
-reference model (machine.py) has it, and the greatest resident memory after the last may be 64 KiB above that after the
-hundredth (VmHWM, from /proc)."""
+second implementation (machine.py) has it, and the greatest resident memory after the last may be 64 KiB above that
+after the hundredth (VmHWM, from /proc)."""
 import os
 import shutil
 import socket

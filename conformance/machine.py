@@ -1,6 +1,6 @@
 #!/usr/bin/env python3
-"""The reference model of a register, written apart from the product and straight from its definitions: slow, plain,
-nothing kept twice.
+"""The second implementation of a register, which the tests call the model: written apart from the product and straight
+from its definitions, slow, plain, nothing kept twice.
 
 It has the policy and the callers, what a caller may see of a file, the extract, the five requests with the state that
 each leaves, a request as it is read from the bytes of a connection with the bytes of its reply, the command line, and

@@ -1,6 +1,6 @@
 #!/usr/bin/env python3
 """A register of format 1, which an earlier program made: every command refuses it, `migrate` makes it format 2, and
-then it lists and extracts what it held, as the reference model (machine.py) has it.
+then it lists and extracts what it held, as the second implementation (machine.py) has it.
 
 usage: migrate.py PROGRAM [COUNT [SEED]]     the last line is 'N passed, M failed'
 

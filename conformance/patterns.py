@@ -1,5 +1,5 @@
-"""The patterns of docs/POLICY.md: each block of rules with the tables below it, what the reference model and the
-program answer, and the claims of its part "What hides and what does not".
+"""The patterns of docs/POLICY.md: each block of rules with the tables below it, what the second implementation
+(machine.py, the model) and the program answer, and the claims of its part "What hides and what does not".
 
 The tables after a block, up to the next one, are those of its policy. The rules of samples/empty.toml are in each."""
 import collections

@@ -6,10 +6,10 @@ usage: peers.py PROGRAM     the last line is 'N passed, M failed'
 
 `serve` has a patience of a second or two. A peer that is silent, sends a byte each 100 ms, stops in a body, reads
 nothing of a reply of 16 MB or a byte of it each 100 ms, breaks off, sends on without end or never closes is cut in
-time, and the request that waits for its end is answered as the reference model (machine.py) has it. Then 200 peers
-come at once, five of them such ones, three times; the greatest resident memory (VmHWM, from /proc) may grow by 256 KiB
-from the first time to the third. A refused POST of 3 MB has to get its status 20 times of 20, by Python's http.client
-and by curl.
+time, and the request that waits for its end is answered as the second implementation (machine.py) has it. Then 200
+peers come at once, five of them such ones, three times; the greatest resident memory (VmHWM, from /proc) may grow by
+256 KiB from the first time to the third. A refused POST of 3 MB has to get its status 20 times of 20, by Python's
+http.client and by curl.
 `samples/proxy` asks the same through nginx."""
 import collections
 import http.client
@@ -136,7 +136,7 @@ def misbehaves(kind, connect, over):
 
 def honest(place):
     """Requests over a register that holds file a by Delta, each with its status and the bytes of its reply, by the
-    reference model."""
+    second implementation."""
     rules, callers = machine.read_policy(machine.POLICY), machine.read_callers(machine.CALLERS)
     register = machine.Register()
     register.deposit(rules, callers["t-delta"], "N1", DAY, machine.FILE_A, DAY)

@@ -1,5 +1,5 @@
 #!/usr/bin/env python3
-"""Random stories of registers, run by the program and by the reference model (machine.py) side by side.
+"""Random stories of registers, run by the program and by the second implementation (machine.py) side by side.
 
 usage: stories.py PROGRAM [COUNT [SEED [FIRST]]]      the last line is 'N passed, M failed'
 

@@ -1,8 +1,8 @@
 """What a policy says and what it shows, before anything is served: the refusals and warnings of `bin/policy
 check`, and the rows of `bin/policy see`.
 
-The language of rules is that of docs/COMMANDS.md. Decisions are those of the reference model (conformance/machine.py);
-rows and their steps are looked up by key here, so that a long file takes seconds."""
+The language of rules is that of docs/COMMANDS.md. Decisions are those of the second implementation
+(conformance/machine.py); rows and their steps are looked up by key here, so that a long file takes seconds."""
 import collections
 import datetime
 import difflib
@@ -278,7 +278,7 @@ def warnings(rules, callers, words):
     if not any(rule["effect"] == "permit" and rule.get("verb", "see") == "see" for rule in rules):
         found.append("no rule permits see: no row of a data group is shown to anybody, and every listing is empty")
     elif not any(may_show_project(rule, rules[:index], words) for index, rule in enumerate(rules)):
-        found.append("no rule permits see of PROJ: every listing is empty, and every extract is unknown")
+        found.append("no rule permits see of PROJ under this dictionary: no deposit is listed or extracted")
     short = [caller for token, caller in callers.items() if len(token) < SHORT_TOKEN]
     if short:
         found.append(f"{len(short)} of {len(callers)} tokens have fewer than {SHORT_TOKEN} characters:"

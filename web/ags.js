@@ -1,5 +1,6 @@
 "use strict";
-// AGS4 files as text: lines, fields, groups. A file is read as bytes, one character each, so that nothing is changed by a guess at its encoding.
+// AGS4 files as text: lines, fields, groups. A file is read as bytes, one character each, so that nothing is changed by
+// a guess at its encoding.
 
 const ags = {
   /** The text of a file's bytes, one character a byte. */
@@ -38,7 +39,8 @@ const ags = {
     return [];
   },
 
-  /** Where in its line a finding is: the field under the heading that is its subject, or a field that is its subject; null where it cannot be told. */
+  /** Where in its line a finding is: the field under the heading that is its subject, or a field that is its subject;
+   * null where it is not known. */
   place(lines, finding) {
     const line = lines[finding.line - 1] ?? "";
     const fields = ags.fields(line);

@@ -1,5 +1,6 @@
 "use strict";
-// The page: who asks, a check, a deposit, the deposits. Texts of files and of the register are only ever put in as text.
+// The page: who asks, a check, a deposit, the deposits. Texts of files and of the register are only ever put in as
+// text.
 
 const MOST_ROWS = 1000;
 const byId = (id) => document.getElementById(id);
@@ -35,10 +36,11 @@ window.addEventListener("unhandledrejection", (event) => {
   const why = event.reason;
   byId("progress").hidden = byId("progress-label").hidden = true;
   tell("");
-  fault(why instanceof Failure ? why.message : `This page failed (${why?.message ?? why}). Load it again, then send a deposit again: it is not kept twice.`);
+  fault(why instanceof Failure ? why.message
+    : `This page failed (${why?.message ?? why}). Load it again, then send a deposit again: it is not kept twice.`);
 });
 
-/** Clears what was told before, and says what is under way. */
+/** Clears what was reported before, and says what is under way. */
 function begin(text, result) {
   fault("");
   tell(text);
@@ -76,7 +78,9 @@ let mayWithdraw = true;
 
 /** Clears what another caller was shown. */
 function beginAsCaller(text) {
-  for (const result of ["check-result", "deposit-result", "deposits-result", "extract-result"]) byId(result).replaceChildren();
+  for (const result of ["check-result", "deposit-result", "deposits-result", "extract-result"]) {
+    byId(result).replaceChildren();
+  }
   mayWithdraw = true;
   fault("");
   tell(text);
@@ -158,15 +162,19 @@ async function bytesOf(file) {
 // ---- findings
 
 let rules = {};
-const rulesLoaded = fetch("rules.json").then((answer) => answer.json()).then((told) => { rules = told; }).catch(() => {});
+const rulesLoaded = fetch("rules.json").then((answer) => answer.json()).then((told) => { rules = told; })
+  .catch(() => {});
 
 /** The line of a finding, with its place marked. */
 function lineWithMark(lines, finding) {
   const line = lines[finding.line - 1];
-  if (line === undefined) return make("code", {}, finding.line === 0 ? "(the file as a whole)" : "(after the last line)");
+  if (line === undefined) {
+    return make("code", {}, finding.line === 0 ? "(the file as a whole)" : "(after the last line)");
+  }
   const place = ags.place(lines, finding);
   if (!place) return make("code", {}, line);
-  return make("code", {}, line.slice(0, place.begin), make("mark", {}, line.slice(place.begin, place.end)), line.slice(place.end));
+  return make("code", {}, line.slice(0, place.begin), make("mark", {}, line.slice(place.begin, place.end)),
+    line.slice(place.end));
 }
 
 function ruleOf(code) {
@@ -176,20 +184,25 @@ function ruleOf(code) {
 function findingsOf(code, findings, lines) {
   const rule = ruleOf(code);
   const rows = findings.slice(0, MOST_ROWS).map((finding) => make("tr", {},
-    make("td", {}, String(finding.line)), make("td", {}, finding.subject || "-"), make("td", {}, lineWithMark(lines, finding))));
-  const more = findings.length > MOST_ROWS ? [make("p", {}, `The first ${MOST_ROWS} of ${findings.length} are shown; the CSV has all.`)] : [];
+    make("td", {}, String(finding.line)), make("td", {}, finding.subject || "-"),
+    make("td", {}, lineWithMark(lines, finding))));
+  const head = ["Line", "Subject", "Text"].map((name) => make("th", { scope: "col" }, name));
+  const more = findings.length > MOST_ROWS
+    ? [make("p", {}, `The first ${MOST_ROWS} of ${findings.length} are shown; the CSV has all.`)] : [];
   return make("details", { open: true, "data-code": code },
     make("summary", {}, make("strong", {}, `Rule ${code} ${rule.title}`), ` (${findings.length})`),
     make("p", {}, rule.rule), make("p", {}, make("strong", {}, "Fix: "), rule.fix), ...more,
     make("div", { class: "scroll", tabindex: "0", role: "region", "aria-label": `Findings of rule ${code}` },
-      make("table", {}, make("thead", {}, make("tr", {}, ...["Line", "Subject", "Text"].map((name) => make("th", { scope: "col" }, name)))), make("tbody", {}, ...rows))));
+      make("table", {}, make("thead", {}, make("tr", {}, ...head)), make("tbody", {}, ...rows))));
 }
 
 const quoted = (text) => `"${String(text).replaceAll('"', '""')}"`;
 
 function findingsAsCsv(findings, lines) {
-  const rows = findings.map((finding) => [finding.code, ruleOf(finding.code).title, finding.line, finding.subject, lines[finding.line - 1] ?? "", ruleOf(finding.code).fix]);
-  return [["code", "rule", "line", "subject", "text", "fix"], ...rows].map((row) => row.map(quoted).join(",") + "\r\n").join("");
+  const rows = findings.map((finding) => [finding.code, ruleOf(finding.code).title, finding.line, finding.subject,
+    lines[finding.line - 1] ?? "", ruleOf(finding.code).fix]);
+  return [["code", "rule", "line", "subject", "text", "fix"], ...rows]
+    .map((row) => row.map(quoted).join(",") + "\r\n").join("");
 }
 
 /** The findings by rule, with counts, a filter and the CSV. */
@@ -199,12 +212,19 @@ async function showFindings(result, findings, bytes) {
   const by = new Map();
   for (const finding of findings) by.set(finding.code, [...(by.get(finding.code) ?? []), finding]);
   const parts = [...by].map(([code, each]) => findingsOf(code, each, lines));
-  const filter = make("select", { id: `${result}-filter`, change: () => { for (const part of parts) part.hidden = filter.value !== "" && part.dataset.code !== filter.value; } },
-    make("option", { value: "" }, "all rules"), ...[...by].map(([code, each]) => make("option", { value: code }, `${code} ${ruleOf(code).title} (${each.length})`)));
+  const showChosen = () => {
+    for (const part of parts) part.hidden = filter.value !== "" && part.dataset.code !== filter.value;
+  };
+  const filter = make("select", { id: `${result}-filter`, change: showChosen },
+    make("option", { value: "" }, "all rules"),
+    ...[...by].map(([code, each]) =>
+      make("option", { value: code }, `${code} ${ruleOf(code).title} (${each.length})`)));
   byId(result).replaceChildren(
-    make("p", { class: "findings" }, `${counted(findings.length, "finding")} of ${counted(by.size, "rule")}. Fix them and check again: later phases are looked at only then.`),
+    make("p", { class: "findings" }, `${counted(findings.length, "finding")} of ${counted(by.size, "rule")}. `
+      + "Fix them and check again: later phases are looked at only then."),
     make("div", { class: "actions" }, make("label", { for: filter.id }, "Show"), filter,
-      make("button", { type: "button", class: "plain", click: () => save("findings.csv", "text/csv", [findingsAsCsv(findings, lines)]) }, "Save as CSV")),
+      make("button", { type: "button", class: "plain",
+        click: () => save("findings.csv", "text/csv", [findingsAsCsv(findings, lines)]) }, "Save as CSV")),
     ...parts);
   tell(`${counted(findings.length, "finding")}.`);
 }
@@ -218,7 +238,8 @@ async function checkFile(file) {
   const bytes = await bytesOf(file);
   const reply = await asked.check(bytes);
   if (reply.status === 200) {
-    byId("check-result").replaceChildren(make("p", { class: "clean" }, `clean: ${file.name} breaks no rule that the register checks.`));
+    byId("check-result").replaceChildren(
+      make("p", { class: "clean" }, `clean: ${file.name} breaks no rule that the register checks.`));
     tell("clean");
   } else if (reply.status === 422) {
     await showFindings("check-result", reply.told.findings, bytes);
@@ -240,9 +261,14 @@ function showProgress(loaded, total) {
 
 function showReceipt(name, told) {
   const text = `receipt ${told.number} ${told.embargo}`;
-  const copy = make("button", { type: "button", class: "plain", click: async () => { await navigator.clipboard.writeText(text).catch(() => {}); tell("The receipt is copied."); } }, "Copy the receipt");
+  const toClipboard = async () => {
+    await navigator.clipboard.writeText(text).catch(() => {});
+    tell("The receipt is copied.");
+  };
+  const copy = make("button", { type: "button", class: "plain", click: toClipboard }, "Copy the receipt");
   byId("deposit-result").replaceChildren(
-    make("p", { class: "receipt" }, `${name} is deposit ${told.number}, free from ${told.embargo}.`), make("p", {}, make("code", { class: "receipt-text" }, text)), copy);
+    make("p", { class: "receipt" }, `${name} is deposit ${told.number}, free from ${told.embargo}.`),
+    make("p", {}, make("code", { class: "receipt-text" }, text)), copy);
   tell(`Deposit ${told.number}.`);
 }
 
@@ -290,7 +316,8 @@ function sortBy(key) {
 }
 
 function withdrawButton(each) {
-  return make("button", { type: "button", class: "plain", "data-withdraw": String(each.number), click: () => withdraw(each) }, `Withdraw ${each.number}`);
+  return make("button", { type: "button", class: "plain", "data-withdraw": String(each.number),
+    click: () => withdraw(each) }, `Withdraw ${each.number}`);
 }
 
 /** Asks a question, and gives whether the answer is yes. */
@@ -299,13 +326,16 @@ function agreed(question) {
   byId("question-text").textContent = question;
   dialog.returnValue = "no";
   dialog.showModal();
-  return new Promise((resolve) => dialog.addEventListener("close", () => resolve(dialog.returnValue === "yes"), { once: true }));
+  return new Promise((resolve) => {
+    dialog.addEventListener("close", () => resolve(dialog.returnValue === "yes"), { once: true });
+  });
 }
 
 async function withdraw(each) {
   const asked = register();
   if (!asked) return;
-  const question = `Withdraw deposit ${each.number} of ${each.firm}? It stays kept, but nobody can list it or draw an extract of it again. This cannot be undone.`;
+  const question = `Withdraw deposit ${each.number} of ${each.firm}? It stays kept, but nobody can list it or draw an `
+    + "extract of it again. This cannot be undone.";
   if (!await agreed(question)) return;
   tell(`Withdrawing deposit ${each.number} ..`);
   fault("");
@@ -319,30 +349,38 @@ async function withdraw(each) {
     mayWithdraw = false;
     showDeposits();
   }
-  fault(reply.status === 404 ? `Deposit ${each.number} is not your firm's: only the firm that sent it can withdraw it.` : sentenceFor(reply));
+  fault(reply.status === 404 ? `Deposit ${each.number} is not your firm's: only the firm that sent it can withdraw it.`
+    : sentenceFor(reply));
 }
 
 function depositRow(each) {
   const state = each.embargo > today() ? " (under embargo)" : "";
-  const groups = make("input", { type: "text", id: `groups-${each.number}`, size: "12", title: GROUPS_FORM, placeholder: "all groups", autocomplete: "off" });
+  const groups = make("input", { type: "text", id: `groups-${each.number}`, size: "12", title: GROUPS_FORM,
+    placeholder: "all groups", autocomplete: "off" });
   return make("tr", {},
     make("td", {}, String(each.number)), make("td", {}, each.firm), make("td", {}, `${each.embargo}${state}`),
     make("td", {}, make("div", { class: "actions" }, make("label", { for: groups.id, class: "hint" }, "Groups"), groups,
-      make("button", { type: "button", "data-extract": String(each.number), click: () => draw(each.number, groups) }, `Extract of ${each.number}`),
+      make("button", { type: "button", "data-extract": String(each.number), click: () => draw(each.number, groups) },
+        `Extract of ${each.number}`),
       ...(mayWithdraw ? [withdrawButton(each)] : []))));
 }
 
 function showDeposits() {
   const way = listed.falls ? -1 : 1;
-  const sorted = [...listed.deposits].sort((a, b) => way * (a[listed.by] < b[listed.by] ? -1 : a[listed.by] > b[listed.by] ? 1 : a.number - b.number));
-  const head = COLUMNS.map(([key, name]) => make("th", { scope: "col", "aria-sort": listed.by === key ? (listed.falls ? "descending" : "ascending") : "none" },
+  const sorted = [...listed.deposits].sort((a, b) => way
+    * (a[listed.by] < b[listed.by] ? -1 : a[listed.by] > b[listed.by] ? 1 : a.number - b.number));
+  const order = (key) => listed.by === key ? (listed.falls ? "descending" : "ascending") : "none";
+  const head = COLUMNS.map(([key, name]) => make("th", { scope: "col", "aria-sort": order(key) },
     make("button", { type: "button", "data-key": key, click: () => sortBy(key) }, name)));
   const hint = mayWithdraw && sorted.length ? [make("p", { class: "hint" }, "Withdraw: own deposits only.")] : [];
-  byId("deposits-result").replaceChildren(...hint, make("div", { class: "scroll", tabindex: "0", role: "region", "aria-label": "Deposits" },
-    make("table", {}, make("caption", {}, `${counted(sorted.length, "deposit")} that you see`), make("thead", {}, make("tr", {}, ...head, make("th", { scope: "col" }, "Extract"))), make("tbody", {}, ...sorted.map(depositRow)))));
+  byId("deposits-result").replaceChildren(...hint,
+    make("div", { class: "scroll", tabindex: "0", role: "region", "aria-label": "Deposits" },
+      make("table", {}, make("caption", {}, `${counted(sorted.length, "deposit")} that you see`),
+        make("thead", {}, make("tr", {}, ...head, make("th", { scope: "col" }, "Extract"))),
+        make("tbody", {}, ...sorted.map(depositRow)))));
 }
 
-/** Shows the deposits, and gives whether the register told them. */
+/** Shows the deposits, and gives whether the register gave them. */
 async function list() {
   const asked = register();
   if (!asked) return false;
@@ -364,17 +402,24 @@ byId("list").addEventListener("click", list);
 
 /** The rows of a group, at most a thousand. */
 function groupTable(group) {
-  const head = group.headings.map((heading, at) => make("th", { scope: "col" }, heading, group.units[at] ? ` (${group.units[at]})` : ""));
-  const rows = group.rows.slice(0, MOST_ROWS).map((row) => make("tr", {}, ...row.map((entry) => make("td", {}, entry))));
-  const note = group.rows.length > MOST_ROWS ? `The first ${MOST_ROWS} of ${group.rows.length} rows; the saved file has all.` : counted(group.rows.length, "row");
+  const head = group.headings.map((heading, at) =>
+    make("th", { scope: "col" }, heading, group.units[at] ? ` (${group.units[at]})` : ""));
+  const rows = group.rows.slice(0, MOST_ROWS).map((row) =>
+    make("tr", {}, ...row.map((entry) => make("td", {}, entry))));
+  const note = group.rows.length > MOST_ROWS
+    ? `The first ${MOST_ROWS} of ${group.rows.length} rows; the saved file has all.`
+    : counted(group.rows.length, "row");
   return make("div", { class: "scroll", tabindex: "0", role: "region", "aria-label": `Rows of ${group.name}` },
-    make("table", {}, make("caption", {}, note), make("thead", {}, make("tr", {}, ...head)), make("tbody", {}, ...rows)));
+    make("table", {}, make("caption", {}, note), make("thead", {}, make("tr", {}, ...head)),
+      make("tbody", {}, ...rows)));
 }
 
 function showExtract(number, bytes) {
   const groups = ags.groups(ags.text(bytes));
   const shown = make("div", { id: "group", role: "tabpanel" });
-  const buttons = groups.map((group) => make("button", { type: "button", role: "tab", "aria-controls": "group", "data-group": group.name, click: (event) => pick(event.currentTarget, group) }, `${group.name} (${group.rows.length})`));
+  const buttons = groups.map((group) => make("button", { type: "button", role: "tab", "aria-controls": "group",
+    "data-group": group.name, click: (event) => pick(event.currentTarget, group) },
+    `${group.name} (${group.rows.length})`));
   function pick(button, group) {
     for (const other of buttons) {
       other.setAttribute("aria-selected", String(other === button));
@@ -391,7 +436,8 @@ function showExtract(number, bytes) {
     }
   }));
   byId("extract-result").replaceChildren(make("h3", {}, `Extract of deposit ${number}`),
-    make("button", { type: "button", id: "save", click: () => save(`deposit-${number}.ags`, "text/plain", [bytes]) }, "Save the file"),
+    make("button", { type: "button", id: "save",
+      click: () => save(`deposit-${number}.ags`, "text/plain", [bytes]) }, "Save the file"),
     make("div", { role: "tablist", "aria-label": "Groups" }, ...buttons), shown);
   if (groups.length) pick(buttons[0], groups[0]);
   tell(`The extract of deposit ${number} has ${counted(groups.length, "group")}.`);

@@ -1,21 +1,23 @@
 "use strict";
-// The register over HTTP, for one project and one token. Each call answers {status, bytes, told}: told is the JSON of the reply, or null.
+// The register over HTTP, for one project and one token. Each call answers `{status, bytes, told}`: `told` is the JSON
+// of the reply, or null.
 
-/** What each refusal means, and what to do. The texts are the register's; the sentences are those of docs/OPERATING.md. */
+/** What each refusal means, and what to do. The texts are the register's; the sentences are this page's own. */
 const SENTENCES = {
   "bad head": "The request could not be read. Something between this page and the register changed it.",
-  "bad length": "The length of the file was not told rightly. Something between this page and the register changed it.",
+  "bad length": "The length of the file was given wrongly. Something between this page and the register changed it.",
   "bad parameter": "The project, the number, the day or the groups are not written as the register takes them.",
   "short body": "The connection broke before the whole file had come. Nothing was done: send it again.",
   "no caller": "No caller has this token. Type it in again, or ask whoever runs the register.",
   "no route": "This register does not have this page. The site before it is not set up for it.",
   "method": "This register does not do that.",
-  "length required": "The length of the file was not told. Something between this page and the register left it out.",
+  "length required": "The length of the file was not given. Something between this page and the register left it out.",
   "too large": "The file is longer than the register takes. Split it into files that are clean each for itself.",
   "unknown": "There is no such deposit in this project, or none that you may see.",
   "full": "The register holds as many deposits as it may. Tell whoever runs it.",
-  "out of memory": "The register ran out of memory. It may be done: send it again later, tell whoever runs it.",
-  "store failed": "The register could not write. A deposit is there whole or not at all: tell whoever runs it, then send the file again. It has the same number if it is there.",
+  "out of memory": "The register ran out of memory. It may have been done: send it again later, tell whoever runs it.",
+  "store failed": "The register could not write. A deposit is there whole or not at all: tell whoever runs it, then "
+    + "send the file again. It has the same number if it is there.",
 };
 const BY_STATUS = {
   413: "The file is longer than the register takes.",
@@ -26,9 +28,12 @@ const BY_STATUS = {
 
 /** The sentence for a reply that is no success. */
 function sentenceFor(reply) {
-  if (reply.status === 0) return "The register was not reached. Check the connection, then send a deposit again: it is not kept twice.";
+  if (reply.status === 0) {
+    return "The register was not reached. Check the connection, then send a deposit again: it is not kept twice.";
+  }
   if (reply.told && Number.isInteger(reply.told.denied)) {
-    return reply.told.denied === 0 ? "The policy has no rule that permits this." : `The policy denies this, by its rule ${reply.told.denied}.`;
+    return reply.told.denied === 0 ? "The policy has no rule that permits this."
+      : `The policy denies this, by its rule ${reply.told.denied}.`;
   }
   const text = reply.told && SENTENCES[reply.told.error];
   return text ?? BY_STATUS[reply.status] ?? `The register answered with status ${reply.status}.`;
@@ -45,7 +50,8 @@ class Register {
   }
 
   deposit(bytes, embargo, onProgress) {
-    return this.request("POST", embargo ? `deposits?embargo=${encodeURIComponent(embargo)}` : "deposits", bytes, onProgress);
+    const query = embargo ? `?embargo=${encodeURIComponent(embargo)}` : "";
+    return this.request("POST", `deposits${query}`, bytes, onProgress);
   }
 
   deposits() {
@@ -53,7 +59,8 @@ class Register {
   }
 
   extract(number, groups) {
-    return this.request("GET", `deposits/${number}${groups.length ? `?groups=${groups.map(encodeURIComponent).join(",")}` : ""}`);
+    const query = groups.length ? `?groups=${groups.map(encodeURIComponent).join(",")}` : "";
+    return this.request("GET", `deposits/${number}${query}`);
   }
 
   withdraw(number) {

@@ -57,7 +57,7 @@ class Receipt:
 
 
 class Refused(Exception):
-    """A request that was not done, with the status of HTTP and the register's text."""
+    """A request that was refused or failed, with the status of HTTP and the register's text."""
 
     def __init__(self, status: int, text: str):
         super().__init__(f"{status} {text}")
@@ -136,7 +136,7 @@ class Register:
         return [Deposit(**each) for each in self._json("GET", "deposits")["deposits"]]
 
     def extract(self, number: int, groups: Iterable[str] = ()) -> bytes:
-        """The rows of a deposit that this caller is shown, of these groups with all that they belong to or link to, or
+        """The rows of a deposit that this caller is shown, of these groups and of PROJ with all that they lead to, or
         of all; an AGS4 file. A text is one group, or more with commas between them."""
         names = groups if isinstance(groups, str) else ",".join(groups)
         return self._request("GET", f"deposits/{number}", None, {"groups": names} if names else {})

@@ -178,7 +178,7 @@ def of_lines():
            "U+FEFF;take it out")
     yield ("utf16_of_a_spreadsheet", b"\xff\xfe" + TEXT.encode("utf-16-le"),
            None, 1, ("1", 1, "-"),
-           "UTF-16;then look for ?: iconv -f UTF-16")
+           "UTF-16;convert it (iconv -f UTF-16;then look for ?")
     yield ("workbook_instead_of_text", b"PK\x03\x04\x14\x00\x06\x00\x08\x00\x00\x00" + bytes(range(256)) * 4,
            None, 1, ("2a", 1, "-"),
            "workbook")

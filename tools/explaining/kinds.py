@@ -94,8 +94,8 @@ def kind_of(file):
     if encoding == "UTF-16":
         return encoding, ["The file is UTF-16 (\"Unicode text\" of a spreadsheet): two bytes a character, so that no "
                           "line can be read.",
-                          "Save it as plain text in ASCII, with CR LF, or convert it, then look for ?: iconv -f UTF-16 "
-                          "-t ASCII//TRANSLIT FILE > NEW"]
+                          "Save it as plain text in ASCII, with CR LF, or convert it (iconv -f UTF-16 -t "
+                          "ASCII//TRANSLIT FILE > NEW), then look for ?"]
     if is_ags3(file):
         return "AGS3", ["The file is AGS3: its groups begin with **, its headings with *. This checker reads AGS4.",
                         "Export it as AGS4 from the program that made it; changing single lines does not make it AGS4."]

@@ -204,9 +204,9 @@ ends_later [] text first end low high lt = omega (arith, low.0, lt)
 ends_later (p ∷ ps) text first end low high lt = true≢false (sym (lt_le (order (key (get_or (p ∷ ps) end p)) text) (low.1.0 end p (omega arith) lt)) ∙ high.1.1 end p (omega arith) (omega (arith, lt, low.0)))
 
 -- the pairs of a text are between its two boundaries
-pub holds_between : (pairs : List Pair) (text : List ℕ) (first end : ℕ) → IsBoundary false text pairs first → IsBoundary true text pairs end
+pub pairs_between : (pairs : List Pair) (text : List ℕ) (first end : ℕ) → IsBoundary false text pairs first → IsBoundary true text pairs end
     → (first ≤ end) × (filter (has text) pairs ≡ take (end - first) (drop first pairs))
-holds_between pairs text first end low high = (
+pairs_between pairs text first end low high = (
   up,
   cut (has text) pairs first (end - first)
       (λ k d a b. eq_at (key (get_or pairs k d)) text false (not_lt (order (key (get_or pairs k d)) text) (low.1.0 k d a b)))
@@ -218,11 +218,11 @@ holds_between pairs text first end low high = (
 
 pub span_holds : (pairs : List Pair) (lookup : Lookup) (text : List ℕ) (span : Span) → pairs_of pairs ≡ lookup → IsBoundary false text pairs span.first → IsBoundary true text pairs span.end → IsSpanOf lookup text span
 span_holds pairs lookup text span is low high = subst (λ l. IsSpanOf l text span) is (
-  (stands.0, omega (arith, high.0, size)),
-  rows_are pairs span.first span.end ∙ ap (map (λ (p : Pair). p.1)) (sym stands.1) ∙ sym (found_is pairs text),
+  (between.0, omega (arith, high.0, size)),
+  rows_are pairs span.first span.end ∙ ap (map (λ (p : Pair). p.1)) (sym between.1) ∙ sym (found_is pairs text),
 ) where
-  stands : (span.first ≤ span.end) × (filter (has text) pairs ≡ take (span.end - span.first) (drop span.first pairs))
-  stands = holds_between pairs text span.first span.end low high
+  between : (span.first ≤ span.end) × (filter (has text) pairs ≡ take (span.end - span.first) (drop span.first pairs))
+  between = pairs_between pairs text span.first span.end low high
 
   of : Pair → List ℕ × ℕ
   of p = (key p, p.1)

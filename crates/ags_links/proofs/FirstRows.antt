@@ -47,8 +47,8 @@ none_found (p ∷ ps) text others = elim (cases_Bool (bytes_eq (key p) text)) [
   rest = filter (λ (x : List ℕ × ℕ). bytes_eq x.0 text) (pairs_of ps)
 
 -- the first pair of a text is first among those found
-first_holds : (pairs : List Pair) (k : ℕ) (d : Pair) → k < length pairs → ((p : Pair) → Contains (take k pairs) p → key p ≢ key (get_or pairs k d)) → get_or (found (pairs_of pairs) (key (get_or pairs k d))) 0 0 ≡ (get_or pairs k d).1
-first_holds pairs k d lt others =
+first_is_found : (pairs : List Pair) (k : ℕ) (d : Pair) → k < length pairs → ((p : Pair) → Contains (take k pairs) p → key p ≢ key (get_or pairs k d)) → get_or (found (pairs_of pairs) (key (get_or pairs k d))) 0 0 ≡ (get_or pairs k d).1
+first_is_found pairs k d lt others =
     let p = get_or pairs k d in
     ap (λ ps. get_or (found (pairs_of ps) (key p)) 0 0) (sym (take-append-drop k pairs))
     ∙ ap (λ l. get_or l 0 0) (found_append (take k pairs) (drop k pairs) (key p))
@@ -105,7 +105,7 @@ module _ (pairs : List Pair) (sorted : AreInOrder pairs) where
     head = get_or (found lookup (key here)) 0 0
 
     head_is : ((p : Pair) → Contains (take k pairs) p → key p ≢ key here) → here.1 ≡ head
-    head_is others = sym (first_holds pairs k d lt others) ∙ ap (λ l. get_or (found l (key here)) 0 0) is
+    head_is others = sym (first_is_found pairs k d lt others) ∙ ap (λ l. get_or (found l (key here)) 0 0) is
 
     -- pair k begins a text
     pub begun : key (get_or pairs first d) ≢ key here → here.1 ≡ head

@@ -23,7 +23,6 @@ use Rattle.reg_policy.specs.Decision.{
   NotAfter,
   NotBefore,
   decision_of,
-  effect_of,
   has_entry,
   is_met,
   is_row_met,

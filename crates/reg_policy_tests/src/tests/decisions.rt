@@ -282,7 +282,7 @@ fn requests_decided(rt: HostRuntime) {
 const EXTRACTS: &str = "verb = \"extract\"\n";
 
 /// A month, a day from which on, a day until which, and one day alone.
-const JUNE: &str = "from = \"2024-06-01\"\nuntil = \"2024-06-30\"\n";
+pub(super) const JUNE: &str = "from = \"2024-06-01\"\nuntil = \"2024-06-30\"\n";
 
 const FROM_JUNE: &str = "from = \"2024-06-01\"\n";
 

@@ -1,5 +1,5 @@
 //! What policies decide of rows.
-use super::decisions::{ANY_DAY, POLICY, STARS, asker_of};
+use super::decisions::{ANY_DAY, JUNE, POLICY, STARS, asker_of};
 use super::policies::{RULE, policy_of};
 use ags_rows::cells;
 use ags_text::Cell;
@@ -160,10 +160,7 @@ fn rows_decided(rt: HostRuntime) {
 }
 
 /// The one rule is of seeing, in June.
-const IN_JUNE: &[&str] = &[
-    RULE,
-    "verb = \"see\"\nfrom = \"2024-06-01\"\nuntil = \"2024-06-30\"\n",
-];
+const IN_JUNE: &[&str] = &[RULE, "verb = \"see\"\n", JUNE];
 
 /// A day, and what is decided of a row under that rule.
 const ROWS_ON_DAYS: [(&str, Decision); 4] = [

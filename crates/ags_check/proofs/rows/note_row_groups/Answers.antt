@@ -11,9 +11,9 @@ use Rattle.ags_check.proofs.Numbering.{group_rows, group_few, group_next}
 use Rattle.ags_check.proofs.rows.note_row_groups.Goals as goal
 
 -- the rows of the group at a place are numbered from a number on, as the index has them
-stands : (groups : List Group) (contents : List Contents) (i first : ℕ) (group : Group) → contents ≡ contents_of groups → first ≡ rows_before (contents_of groups) i → At groups i group
+has_rows : (groups : List Group) (contents : List Contents) (i first : ℕ) (group : Group) → contents ≡ contents_of groups → first ≡ rows_before (contents_of groups) i → At groups i group
     → HaveRowsOf (data_rows contents) first group
-stands groups contents i first group same is at =
+has_rows groups contents i first group same is at =
     subst (λ (c : List Contents). HaveRowsOf (data_rows c) first group) (sym same)
     (subst (λ (n : ℕ). HaveRowsOf (data_rows (contents_of groups)) n group) (sym is) (group_rows groups i group at))
 
@@ -23,7 +23,7 @@ few groups contents i first group same is at = omega (arith, is, group_few group
 
 pub note_group_entries-requires-clause-rows : goal.note_group_entries-requires-clause-rows
 note_group_entries-requires-clause-rows c =
-    stands c.args.groups.now c.args.index.now.contents c.loop-group.group-index c.loop-group.first c.group-item.result c.requires.contents c.loop-group.invariant.first
+    has_rows c.args.groups.now c.args.index.now.contents c.loop-group.group-index c.loop-group.first c.group-item.result c.requires.contents c.loop-group.invariant.first
     (c.loop-group-test.true, sym c.group-item.is)
 
 pub note_group_entries-requires-clause-few : goal.note_group_entries-requires-clause-few
