@@ -6,9 +6,7 @@ ghost use Rattle.reg_cli.specs.Streams.{HaveNotFailed, has_failed};
 
 use crate::progress::ProgressLines;
 use crate::serving::{Serving, serve_desk, serve_register};
-use crate::stores::{
-    RegisterFile, create_store, make_private, migrate_store, not_made, open_store,
-};
+use crate::stores::{Registers, make_private, migrate_register, open_register};
 use reg_cli::{
     Action, Asker, Failure, Fault, Session, Watched, Words, ask_deposit, ask_extract, ask_list,
     ask_withdraw, check_given, day_or, dictionary_in, read_path, read_rights, read_words,
@@ -18,8 +16,6 @@ use reg_desk::Desk;
 use reg_http::{groups_listed, number_of_deposit};
 use reg_policy::{Day, Policy};
 use reg_store::Keep;
-use reg_tables::SqlKeep;
-use sqlite::{Alter, Start};
 use std::alloc::Global;
 use std::convert::AsStr;
 use std::fs::File;
@@ -28,9 +24,9 @@ use std::time::Clock;
 
 /// Runs the program on its arguments. The first is its name; without others it checks the file that the input
 /// carries. No clause says what is done with further arguments, or with what the machine says.
-pub fn run_words<F: Start, S: AsStr, R: Read, W: Write, E: Write>(
+pub fn run_words<G: Registers, S: AsStr, R: Read, W: Write, E: Write>(
     rt: &HostRuntime,
-    machine: Machine<F>,
+    machine: Machine<G>,
     words: &[S],
     input: &mut Watched<R>,
     out: &mut Watched<W>,
@@ -54,10 +50,11 @@ pub fn run_words<F: Start, S: AsStr, R: Read, W: Write, E: Write>(
     }
 }
 
-/// What the machine says of a run. `F` stands for what the files of a store held.
+/// What the machine says of a run.
 #[derive(Drop)]
-pub struct Machine<F> {
-    pub start: F,
+pub struct Machine<G> {
+    /// Where its registers are.
+    pub registers: G,
     /// The day that the clock tells, if it tells one.
     pub today: Option<Day>,
     /// Whether standard error is a terminal.
@@ -65,10 +62,10 @@ pub struct Machine<F> {
 }
 
 /// Does what the arguments ask.
-fn run_command<'w, F: Start, W: Write, E: Write>(
+fn run_command<'w, G: Registers, W: Write, E: Write>(
     rt: &HostRuntime,
     alloc: Global,
-    machine: Machine<F>,
+    machine: Machine<G>,
     words: Words<'w>,
     out: &mut Watched<W>,
     err: &mut Watched<E>,
@@ -77,7 +74,14 @@ fn run_command<'w, F: Start, W: Write, E: Write>(
     requires err { has_failed err.old ≡ false }
 {
     match words {
-        Words::Init { store, dictionary } => init(rt, alloc, machine.start, store, dictionary, out),
+        Words::Init { store, dictionary } => init(
+            rt,
+            alloc,
+            machine.registers,
+            store,
+            dictionary,
+            out,
+        ),
         Words::Migrate {
             store,
             shows_progress,
@@ -89,10 +93,10 @@ fn run_command<'w, F: Start, W: Write, E: Write>(
 }
 
 /// Makes a register.
-fn init<'w, F: Start, W: Write>(
+fn init<'w, G: Registers, W: Write>(
     rt: &HostRuntime,
     alloc: Global,
-    start: F,
+    registers: G,
     store: &'w str,
     dictionary: &'w str,
     out: &mut Watched<W>,
@@ -101,17 +105,15 @@ fn init<'w, F: Start, W: Write>(
     // Bytes that are no dictionary make no file.
     dictionary_in(alloc, &bytes)?;
     make_private(rt, store);
-    match create_store(rt, alloc, start, store, &bytes) {
-        Ok(()) => Ok(tell(out, b"created\n", 0)),
-        Err(error) => Err(not_made(error)),
-    }
+    registers.create(rt, alloc, store, &bytes)?;
+    Ok(tell(out, b"created\n", 0))
 }
 
 /// Makes a register of format 1 one of format 2.
-fn migrate<'w, F: Start, W: Write, E: Write>(
+fn migrate<'w, G: Registers, W: Write, E: Write>(
     rt: &HostRuntime,
     alloc: Global,
-    machine: Machine<F>,
+    machine: Machine<G>,
     store: &'w str,
     shows_progress: bool,
     out: &mut Watched<W>,
@@ -119,11 +121,7 @@ fn migrate<'w, F: Start, W: Write, E: Write>(
 ) -> Result<u8, Failure<'w>> {
     let is_wanted = machine.is_terminal || shows_progress;
     let mut lines = ProgressLines::new(alloc, rt, err, is_wanted);
-    let file = RegisterFile {
-        start: machine.start,
-        path: store,
-    };
-    migrate_store(rt, alloc, file, &mut lines)?.close();
+    migrate_register(rt, alloc, machine.registers, store, &mut lines)?;
     Ok(tell(out, b"migrated\n", 0))
 }
 
@@ -144,10 +142,10 @@ fn check_file<'w, W: Write, E: Write>(
 }
 
 /// Asks a register.
-fn ask_register<'w, F: Start, W: Write, E: Write>(
+fn ask_register<'w, G: Registers, W: Write, E: Write>(
     rt: &HostRuntime,
     alloc: Global,
-    machine: Machine<F>,
+    machine: Machine<G>,
     asker: &Asker<'w>,
     action: &Action<'w>,
     out: &mut Watched<W>,
@@ -158,11 +156,17 @@ fn ask_register<'w, F: Start, W: Write, E: Write>(
     let task = task_of(rt, alloc, &session, action)?;
     let is_wanted = machine.is_terminal || asker.shows_progress;
     let mut lines = ProgressLines::new(alloc, rt, err, is_wanted);
-    let file = RegisterFile {
-        start: machine.start,
-        path: asker.store,
-    };
-    use_store(rt, alloc, file, policy, &task, out, &mut lines)
+    let registers = machine.registers;
+    use_store(
+        rt,
+        alloc,
+        registers,
+        asker.store,
+        policy,
+        &task,
+        out,
+        &mut lines,
+    )
 }
 
 /// What is done with a register once it is open.
@@ -232,36 +236,21 @@ fn number_given(text: &str) -> Result<u32, Fault> {
     number_of_deposit(text.as_bytes()).ok_or(Fault::NumberRefused)
 }
 
-/// Opens the register in a file, and does with it what is asked. Each command that opens one comes here, but `migrate`.
-/// Where the type of a store is named, the proof that it is one is long. So the proof is there twice: once over
-/// `FileStore`, and once over any `Alter`.
-pub(crate) fn use_store<'w, F: Start, C: Clock, W: Write, E: Write>(
+/// Opens the register at a path, and does with it what is asked. Each command that opens one comes here, but `migrate`.
+pub(crate) fn use_store<'w, G: Registers, C: Clock, W: Write, E: Write>(
     rt: &HostRuntime,
     alloc: Global,
-    file: RegisterFile<'w, F>,
+    registers: G,
+    path: &str,
     policy: Policy,
     task: &StoreTask<'_>,
     out: &mut Watched<W>,
     lines: &mut ProgressLines<'_, '_, C, E>,
 ) -> Result<u8, Failure<'w>> {
-    let keep = open_store(rt, alloc, file, lines)?;
-    let (done, keep) = use_tables(rt, alloc, keep, policy, task, out);
-    keep.close();
+    let kept = open_register(rt, alloc, registers, path, lines)?;
+    let (done, kept) = use_keep(rt, alloc, kept, policy, task, out);
+    G::close(kept);
     done
-}
-
-/// Does what is asked with a store in tables, over any `Alter`, and returns the store.
-fn use_tables<'w, S: Alter, W: Write>(
-    rt: &HostRuntime,
-    alloc: Global,
-    keep: SqlKeep<S>,
-    policy: Policy,
-    task: &StoreTask<'_>,
-    out: &mut Watched<W>,
-) -> (Result<u8, Failure<'w>>, SqlKeep<S>)
-    requires { keep.has_failed ≡ false }
-{
-    use_keep(rt, alloc, keep, policy, task, out)
 }
 
 /// Does what is asked with a store, and returns the store.

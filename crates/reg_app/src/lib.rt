@@ -7,7 +7,6 @@
 
 mod commands;
 mod connection;
-mod failure;
 mod front;
 mod log;
 mod moment;
@@ -20,3 +19,4 @@ pub use commands::{Machine, run_words};
 pub use log::Log;
 pub use progress::ProgressLines;
 pub use serving::{Serving, serve_on};
+pub use stores::Registers;

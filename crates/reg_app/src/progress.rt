@@ -1,7 +1,7 @@
 //! Lines that say how far the start of a command is.
 
 use reg_cli::Watched;
-use reg_tables::Progress;
+use reg_store::Progress;
 use std::alloc::{AllocError, Global};
 use std::io::Write;
 use std::time::{Clock, Duration, Instant};

@@ -4,13 +4,12 @@ use crate::commands::{Machine, StoreTask, use_store};
 use crate::connection::serve_next;
 use crate::log::Log;
 use crate::progress::ProgressLines;
-use crate::stores::RegisterFile;
+use crate::stores::Registers;
 use itoa::Buffer;
 use reg_cli::{Failure, Fault, Service, StreamFailed, Watched, day_or, read_rights};
 use reg_desk::Desk;
 use reg_policy::{Callers, Day};
 use reg_store::Keep;
-use sqlite::Start;
 use std::alloc::Global;
 use std::fs::{File, OpenOptions};
 use std::io::Write;
@@ -66,10 +65,10 @@ fn print_line<W: Write>(out: &mut Watched<W>, status: Option<u16>) -> Result<(),
 }
 
 /// Opens the register, listens, and serves.
-pub(crate) fn serve_register<'w, F: Start, W: Write, E: Write>(
+pub(crate) fn serve_register<'w, G: Registers, W: Write, E: Write>(
     rt: &HostRuntime,
     alloc: Global,
-    machine: Machine<F>,
+    machine: Machine<G>,
     service: &Service<'w>,
     out: &mut Watched<W>,
     err: &mut Watched<E>,
@@ -91,11 +90,17 @@ pub(crate) fn serve_register<'w, F: Start, W: Write, E: Write>(
     };
     let is_wanted = machine.is_terminal || service.shows_progress;
     let mut lines = ProgressLines::new(alloc, rt, err, is_wanted);
-    let file = RegisterFile {
-        start: machine.start,
-        path: service.store,
-    };
-    use_store(rt, alloc, file, policy, &task, out, &mut lines)
+    let registers = machine.registers;
+    use_store(
+        rt,
+        alloc,
+        registers,
+        service.store,
+        policy,
+        &task,
+        out,
+        &mut lines,
+    )
 }
 
 /// The day of the requests, if it is not that of the clock.

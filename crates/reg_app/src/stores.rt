@@ -1,18 +1,11 @@
-//! Registers in files: how one is made, and how one is found.
+//! Registers at paths: what makes and opens them, and what is said of their files.
 
-ghost use Rattle.std.specs.Prelude.{◌≡◌, ◌≤◌, false, IfErr, IfOk, length};
-ghost use Rattle.sqlite.specs.Files.{file_state};
-ghost use Rattle.sqlite.specs.WalFiles.{image_at};
-ghost use Rattle.reg_tables.specs.Making.{RefusesBytes};
-ghost use Rattle.reg_tables.specs.Migrates.{MigratesFiles};
-ghost use Rattle.reg_tables.specs.Opened.{AdoptsFiles};
+ghost use Rattle.std.specs.Prelude.{◌≡◌, ◌≤◌, false, IfOk, length};
 
-use crate::failure::adopting;
 use crate::progress::ProgressLines;
 use ags_rows::READABLE;
 use reg_cli::{Failure, Fault};
-use reg_tables::{CreateError, SqlKeep};
-use sqlite::{FileFrom, FileStore, Start};
+use reg_store::{Keep, Progress};
 use std::alloc::Global;
 use std::convert::AsStr;
 use std::fs;
@@ -22,35 +15,85 @@ use std::os::unix::fs::OpenOptionsExt;
 use std::path::Path;
 use std::time::Clock;
 
-/// Makes an empty register at a path, and closes it. What names the type of a store in a file is kept short: it is
-/// written out at each point of a function that holds one.
-pub(crate) fn create_store<F: Start>(
-    rt: &HostRuntime,
-    alloc: Global,
-    start: F,
-    store: &str,
-    bytes: &[u8],
-) -> Result<(), CreateError>
-    requires short { length bytes.now ≤ READABLE }
-    ensures refused { IfErr result (RefusesBytes bytes.now) }
-{
-    match SqlKeep::create_from(rt, alloc, store, bytes, start) {
-        Ok(keep) => {
-            keep.close();
-            Ok(())
-        }
-        Err((error, _connection)) => Err(error),
-    }
+/// What makes and opens registers at paths.
+pub trait Registers: Drop {
+    /// A register that is open.
+    type Kept: Keep;
+
+    /// Makes an empty register at a path under the dictionary that the bytes are, and closes it.
+    fn create<'w>(
+        self,
+        rt: &HostRuntime,
+        alloc: Global,
+        path: &str,
+        bytes: &[u8],
+    ) -> Result<(), Failure<'w>>
+        requires { length bytes.now ≤ READABLE };
+
+    /// Opens the register at a path. `progress` takes note of the deposits that are checked.
+    fn open<'w, P: Progress>(
+        self,
+        rt: &HostRuntime,
+        alloc: Global,
+        path: &str,
+        progress: &mut P,
+    ) -> Result<Self::Kept, Failure<'w>>
+        ensures { IfOk result (λ kept. Self.Kept.has_failed kept ≡ false) };
+
+    /// Makes the register of format 1 at a path one of format 2, and closes it.
+    fn migrate<'w, P: Progress>(
+        self,
+        rt: &HostRuntime,
+        alloc: Global,
+        path: &str,
+        progress: &mut P,
+    ) -> Result<(), Failure<'w>>;
+
+    /// Closes a register.
+    fn close(kept: Self::Kept);
 }
 
-/// Why no register was made.
-pub(crate) fn not_made<'w>(error: CreateError) -> Failure<'w> {
-    Failure::Plain(match error {
-        CreateError::Dictionary(_) => Fault::DictionaryRefused,
-        CreateError::NotEmpty => Fault::StoreNotEmpty,
-        CreateError::Store => Fault::StoreFailed,
-        CreateError::NoMemory => Fault::NoMemory,
-    })
+/// Opens the register at a path, and says how far that is.
+pub(crate) fn open_register<'w, G: Registers, C: Clock, E: Write>(
+    rt: &HostRuntime,
+    alloc: Global,
+    registers: G,
+    path: &str,
+    lines: &mut ProgressLines<'_, '_, C, E>,
+) -> Result<G::Kept, Failure<'w>>
+    ensures { IfOk result (λ kept. G.Kept.has_failed kept ≡ false) }
+{
+    find_file(rt, alloc, path, lines)?;
+    registers.open(rt, alloc, path, lines)
+}
+
+/// Makes the register of format 1 at a path one of format 2, and says how far that is.
+pub(crate) fn migrate_register<'w, G: Registers, C: Clock, E: Write>(
+    rt: &HostRuntime,
+    alloc: Global,
+    registers: G,
+    path: &str,
+    lines: &mut ProgressLines<'_, '_, C, E>,
+) -> Result<(), Failure<'w>> {
+    find_file(rt, alloc, path, lines)?;
+    registers.migrate(rt, alloc, path, lines)
+}
+
+/// Says how many bytes a register has, unless its path names nothing, in a folder that is there: opening a store would
+/// make a file of this name.
+fn find_file<C: Clock, E: Write>(
+    rt: &HostRuntime,
+    alloc: Global,
+    path: &str,
+    lines: &mut ProgressLines<'_, '_, C, E>,
+) -> Result<(), Fault> {
+    if is_absent(rt, path) {
+        return Err(Fault::NotRegister);
+    }
+    if lines.is_wanted() {
+        say_size(rt, alloc, path, lines);
+    }
+    Ok(())
 }
 
 /// Makes an empty file that its owner alone may read and write, where none is there. The log beside it has the same
@@ -63,55 +106,7 @@ pub(crate) fn make_private(rt: &HostRuntime, store: &str) {
         .open(rt, store);
 }
 
-/// The file of a register, and the log beside it. `F` stands for what they held.
-#[derive(Drop)]
-pub(crate) struct RegisterFile<'w, F> {
-    pub(crate) start: F,
-    pub(crate) path: &'w str,
-}
-
-/// The register in a file.
-pub(crate) fn open_store<'w, F: Start, C: Clock, E: Write>(
-    rt: &HostRuntime,
-    alloc: Global,
-    file: RegisterFile<'w, F>,
-    lines: &mut ProgressLines<'_, '_, C, E>,
-) -> Result<SqlKeep<FileStore<FileFrom<F>>>, Failure<'w>>
-    ensures adopted { IfOk result (λ k. AdoptsFiles (image_at F.Start) k.dictionary (file_state k.connection)) }
-    ensures working { IfOk result (λ k. k.has_failed ≡ false) }
-{
-    let RegisterFile { start, path } = file;
-    if is_absent(rt, path) {
-        return Err(Failure::Plain(Fault::NotRegister));
-    }
-    say_size(rt, alloc, path, lines);
-    match SqlKeep::open_from(rt, alloc, path, start, lines) {
-        Ok(keep) => Ok(keep),
-        Err((error, _connection)) => Err(adopting(error)),
-    }
-}
-
-/// The register of format 1 in a file, made one of format 2.
-pub(crate) fn migrate_store<'w, F: Start, C: Clock, E: Write>(
-    rt: &HostRuntime,
-    alloc: Global,
-    file: RegisterFile<'w, F>,
-    lines: &mut ProgressLines<'_, '_, C, E>,
-) -> Result<SqlKeep<FileStore<FileFrom<F>>>, Failure<'w>>
-    ensures { IfOk result (λ k. MigratesFiles (image_at F.Start) k.dictionary (file_state k.connection)) }
-{
-    let RegisterFile { start, path } = file;
-    if is_absent(rt, path) {
-        return Err(Failure::Plain(Fault::NotRegister));
-    }
-    say_size(rt, alloc, path, lines);
-    match SqlKeep::migrate_from(rt, alloc, path, start, lines) {
-        Ok(keep) => Ok(keep),
-        Err((error, _connection)) => Err(adopting(error)),
-    }
-}
-
-/// Whether a path names nothing, in a folder that is there. Opening a store would make a file of this name.
+/// Whether a path names nothing, in a folder that is there.
 fn is_absent(rt: &HostRuntime, path: &str) -> bool {
     match fs::symlink_metadata(rt, path) {
         Err(error) if error.kind() == ErrorKind::NotFound => has_folder(rt, path),
@@ -135,9 +130,6 @@ fn say_size<C: Clock, E: Write>(
     path: &str,
     lines: &mut ProgressLines<'_, '_, C, E>,
 ) {
-    if !lines.is_wanted() {
-        return;
-    }
     if let Some(bytes) = register_bytes(rt, alloc, path) {
         lines.say_bytes(bytes);
     }

@@ -38,12 +38,7 @@ pub(crate) struct Received<'s, C> {
 }
 
 impl<'s, C: Clock> Received<'s, C> {
-    pub(crate) fn until(
-        alloc: Global,
-        end: Instant,
-        clock: &'s C,
-        stream: &'s TcpStream,
-    ) -> Self {
+    pub(crate) fn until(alloc: Global, end: Instant, clock: &'s C, stream: &'s TcpStream) -> Self {
         Received {
             clock,
             stream,

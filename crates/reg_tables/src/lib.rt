@@ -14,4 +14,3 @@ mod write;
 
 pub use error::{AdoptError, CreateError, MigrateError};
 pub use keep::SqlKeep;
-pub use open::progress::{NoProgress, Progress};

@@ -350,5 +350,9 @@ const MOST_BYTES: usize = 1_024;
 
 /// Whether the row is so short that it may be in memory.
 fn is_short(row: &ProjectRow) -> bool {
-    row.headings.as_slice().len().saturating_add(row.line.as_slice().len()) <= MOST_BYTES
+    row.headings
+        .as_slice()
+        .len()
+        .saturating_add(row.line.as_slice().len())
+        <= MOST_BYTES
 }

@@ -20,7 +20,6 @@ ghost use Rattle.reg_tables.specs.Methods.{HoldsLines, HoldsSteps};
 use crate::memory::digests::{Digests, digest_of};
 use crate::open::compare::{SameLines, SameSteps, are_all};
 use crate::open::head::{DigestedHead, into_head};
-use crate::open::progress::Progress;
 use crate::read::equal::read_equal;
 use crate::read::gather::take_shown;
 use crate::read::read_numbered;
@@ -29,7 +28,7 @@ use crate::write::lines::few_rows;
 use ags_check::{CheckError, Checked, check};
 use ags_dict::Dictionary;
 use ags_rows::LIMIT;
-use reg_store::{KeepError, Kept, KeptHead, KeptRow};
+use reg_store::{KeepError, Kept, KeptHead, KeptRow, Progress};
 use sqlite::{Alter, Connection, Row, params};
 use std::alloc::Global;
 

@@ -15,9 +15,9 @@ use crate::memory::Memory;
 use crate::memory::digests::Digests;
 use crate::open::examine::examine;
 use crate::open::marks::read_marks;
-use crate::open::progress::Progress;
 use crate::schema::format::Format;
 use ags_dict::Dictionary;
+use reg_store::Progress;
 use sqlite::{Alter, Connection};
 use std::alloc::Global;
 

@@ -18,14 +18,13 @@ use crate::error::{AdoptError, MigrateError};
 use crate::keep::SqlKeep;
 use crate::memory::Memory;
 use crate::open::known::recall_first;
-use crate::open::progress::{NoProgress, Progress};
 use crate::open::second_format::SecondFormat;
 use crate::open::tables::test_tables;
 use crate::open::{close_file, connect};
 use crate::schema::format::Format;
 use crate::write::change::change_tables;
 use ags_dict::Dictionary;
-use reg_store::KeepError;
+use reg_store::{KeepError, NoProgress, Progress};
 use sqlite::{Alter, Connection, File, FileFrom, FileStore, Start, Unknown};
 use std::alloc::Global;
 

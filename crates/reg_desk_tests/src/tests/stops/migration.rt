@@ -5,7 +5,8 @@ use crate::tests::bodies::{A, B};
 use crate::tests::examples::UNTIL;
 use crate::tests::{Ask, Step, Want};
 use ags_rows::vectors::MINI;
-use reg_tables::{AdoptError, MigrateError, NoProgress, SqlKeep};
+use reg_store::NoProgress;
+use reg_tables::{AdoptError, MigrateError, SqlKeep};
 use sqlite::{Alter, Connection};
 use std::alloc::Global;
 

@@ -1,0 +1,7 @@
+//! Registers in files, for the commands of reg_app.
+#![tactic(auto)]
+
+mod failure;
+mod files;
+
+pub use files::Files;
