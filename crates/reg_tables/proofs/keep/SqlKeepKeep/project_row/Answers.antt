@@ -43,4 +43,4 @@ returns-clause-read g c clean =
 pub returns-in-Some-clause-read : goal.returns-in-Some-clause-read
 returns-in-Some-clause-read g c clean =
     let keep = c.args.self.now in
-    λ d file at of. ap Some c.in_ok-copied.ensures ∙ c.in-Some.ensures keep.dictionary (deposits_in (state g.S.Store keep.connection).committed.trees) (keep.agrees c.requires.working clean) d file at of
+    λ d file at of. ap Some c.in_ok-row.ensures ∙ c.in-Some.ensures keep.dictionary (deposits_in (state g.S.Store keep.connection).committed.trees) (keep.agrees c.requires.working clean) d file at of
