@@ -38,7 +38,7 @@ use Rattle.sqlite_catalog.specs.Listing.{IsSound}
 use Rattle.reg_tables.specs.declared.schema.format.Format.{Format}
 use Rattle.reg_tables.specs.Adopts.{id_of, number_rows}
 
--- ---- what the queries show_number
+-- ---- what the queries show
 
 -- a query without a test_number shows all rows
 all_pass : (params : Row) (rows : List Row) → filter (passes [] params) rows ≡ rows

@@ -215,10 +215,11 @@ agrees_still old new memory dictionary agrees quiet clean well =
 
 -- what was read is noted
 pub agrees_noted : (old new : State) {failed : Bool} (memory noted : Memory) (dictionary : Entries) (n : ℕ) {IsRead : Entries → List Sent → Type 0} → (HasCleanDisk old → Agrees memory dictionary (deposits_in old.committed.trees)) → IsStill old new failed
-    → Remembers memory noted n IsRead → IsNumberOf n (deposits_in old.committed.trees) → IsRead dictionary (sents (deposits_in old.committed.trees)) → HasCleanDisk new → failed ≡ false → Agrees noted dictionary (deposits_in new.committed.trees)
+    → Remembers memory noted n IsRead → (HasCleanDisk old → IsNumberOf n (deposits_in old.committed.trees)) → (HasCleanDisk old → IsRead dictionary (sents (deposits_in old.committed.trees))) → HasCleanDisk new → failed ≡ false → Agrees noted dictionary (deposits_in new.committed.trees)
 agrees_noted old new memory noted dictionary n agrees quiet notes number read clean well =
+    let first = clean_before old new quiet.survives clean in
     subst (λ (db : Database). Agrees noted dictionary (deposits_in db.trees)) (sym (quiet.same clean well).1)
-    (notes.agrees dictionary (deposits_in old.committed.trees) number read (agrees (clean_before old new quiet.survives clean)))
+    (notes.agrees dictionary (deposits_in old.committed.trees) (number first) (read first) (agrees first))
 
 -- the store that held the list still holds it
 pub keeps_noted : (old new : State) {failed : Bool} (memory noted : Memory) (dictionary : Entries) (n : ℕ) {IsRead : Entries → List Sent → Type 0} → (HasCleanDisk old → ∥ KeepsRegister old dictionary (length memory.known.items) ∥₁) → IsStill old new failed

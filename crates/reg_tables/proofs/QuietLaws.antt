@@ -12,6 +12,16 @@ use Rattle.reg_tables.specs.Quiet.{IsIdle, IsStill}
 pub clean_before : {P : Trees → Type 0} (old new : State) → Survives old new P → HasCleanDisk new → HasCleanDisk old
 clean_before old new survives clean = omega (arith, survives.clean)
 
+-- what is read of what the store held before a call
+pub read_before : (old new : State) {failed : Bool} {Held Is Read : Type 0} → IsStill old new failed → (HasCleanDisk old → Held) → (HasCleanDisk old → Is) → (Is → Held → Read) → HasCleanDisk new → Read
+read_before old new quiet held is read clean =
+    let first = clean_before old new quiet.survives clean in
+    read (is first) (held first)
+
+-- the tables that a call read
+pub tables_before : {old new : State} {failed : Bool} → IsIdle old → IsStill old new failed → HasCleanDisk new → HasTables old.now.schema
+tables_before {old} {new} idle quiet clean = idle.schema (clean_before old new quiet.survives clean)
+
 -- what is read of the rows changes nothing more
 pub quiet_read : (old new : State) (failed : Bool) → IsStill old new false → IsStill old new failed
 quiet_read old new failed quiet = record {

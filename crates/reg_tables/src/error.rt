@@ -1,7 +1,5 @@
 //! Why a register is not made, opened or migrated.
 
-ghost use Rattle.std.specs.Prelude.{◌≡◌};
-
 use ags_dict::DictError;
 use reg_store::KeepError;
 use thiserror::Error;
@@ -40,7 +38,7 @@ pub enum AdoptError {
     NoMemory,
 }
 
-/// Why a register is not migrated: as a register is not adopted, where `Version` has another number than 1.
+/// Why a register is not migrated: the refusals of `adopt`, where `Version` has another number than 1.
 pub type MigrateError = AdoptError;
 
 impl From<KeepError> for AdoptError {

@@ -1,7 +1,7 @@
 //! Kept deposits in tables: a store over a database of SQLite.
 //!
 //! `keep` is the store. `open` makes, opens and migrates registers, `write` adds deposits and marks, `read` reads
-//! them. `schema` has the tables that are expected, `memory` what is known of deposits without the tables.
+//! deposits. `schema` has the tables that are expected, `memory` what is known of deposits without the tables.
 #![tactic(auto)]
 
 mod error;

@@ -346,7 +346,7 @@ pub(crate) struct Coming {
 const MOST_PROJECTS: u32 = 65_536;
 
 /// The most bytes of a row of PROJ in memory, with its HEADING row.
-const MOST_BYTES: usize = 1_024;
+const MOST_PROJECT_BYTES: usize = 1_024;
 
 /// Whether the row is so short that it may be in memory.
 fn is_short(row: &ProjectRow) -> bool {
@@ -354,5 +354,5 @@ fn is_short(row: &ProjectRow) -> bool {
         .as_slice()
         .len()
         .saturating_add(row.line.as_slice().len())
-        <= MOST_BYTES
+        <= MOST_PROJECT_BYTES
 }

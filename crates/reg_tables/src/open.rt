@@ -16,20 +16,20 @@ pub(crate) mod create;
 pub(crate) mod deposits;
 pub(crate) mod examine;
 pub(crate) mod head;
-pub(crate) mod known;
 pub(crate) mod marks;
 pub(crate) mod meta;
 pub(crate) mod migrate;
 pub(crate) mod new_tables;
+pub(crate) mod recall;
 pub(crate) mod second_format;
 pub(crate) mod tables;
 pub(crate) mod values;
 
 use crate::error::AdoptError;
 use crate::keep::SqlKeep;
-use crate::open::known::recall;
-use crate::open::tables::test_tables;
-use crate::read::queries::read_error;
+use crate::open::recall::recall;
+use crate::open::tables::examine_tables;
+use crate::read::queries::keep_error;
 use crate::schema::format::Format;
 use reg_store::{KeepError, NoProgress, Progress};
 use sqlite::{Alter, Connection, File, FileFrom, FileStore, Start, Unknown};
@@ -64,7 +64,7 @@ impl<S: Alter> SqlKeep<S> {
         ensures still { IfErr result (λ e. StaysIfOpen (state S.Store connection) (state S.Store e.1)) }
         ensures left { IfErr result (λ e. Survives (state S.Store connection) (state S.Store e.1) (λ _. ⊥)) }
     {
-        match test_tables(&mut connection, Format::Second) {
+        match examine_tables(&mut connection, Format::Second) {
             Ok(()) => {}
             Err(error) => return Err((error, connection)),
         }
@@ -155,7 +155,7 @@ pub(crate) fn connect<F: Start>(
 {
     match Connection::open_from(rt, path, false, start) {
         Ok(connection) => Ok(connection),
-        Err((error, _left)) => Err(read_error(&error)),
+        Err((error, _left)) => Err(keep_error(&error)),
     }
 }
 

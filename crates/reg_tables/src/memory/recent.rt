@@ -54,7 +54,7 @@ pub(crate) struct RecentGraph {
 const MOST_ROWS: usize = 4_096;
 
 /// The most bytes of group names and lines that are in memory.
-const MOST_BYTES: usize = 65_536;
+const MOST_ROW_BYTES: usize = 65_536;
 
 /// Whether the rows are so few, and so short, that they may be in memory.
 fn are_small(rows: &[KeptRow]) -> bool
@@ -68,7 +68,7 @@ fn are_small(rows: &[KeptRow]) -> bool
         bytes = bytes
             .saturating_add(row.group.len())
             .saturating_add(row.line.len());
-        if bytes > MOST_BYTES {
+        if bytes > MOST_ROW_BYTES {
             return false;
         }
     }

@@ -139,7 +139,7 @@ fn whole_head<S: Alter>(
     }
 }
 
-/// The deposit of a number, which is the one row of the answer. The row goes, so that its body is held once.
+/// The deposit of a number, which is the one row of the answer. The row is dropped, so that its body is held once.
 fn take_deposit(alloc: Global, number: u32, rows: Vec<Row>) -> Result<Kept, KeepError>
     ensures read { IfOk result (λ kept. rows.items ≡ given_deposit number (sent_of kept) ∷ []) }
     ensures is_named { IfOk result (λ kept. IsNamed (sent_of kept)) }

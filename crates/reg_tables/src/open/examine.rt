@@ -140,7 +140,7 @@ fn read_register<S: Alter, P: Progress>(
 }
 
 /// How many deposits there are, if their numbers are those from 1 on.
-pub(crate) fn read_count<S: Alter>(conn: &mut Connection<S>) -> Result<Option<u32>, KeepError>
+fn read_count<S: Alter>(conn: &mut Connection<S>) -> Result<Option<u32>, KeepError>
     requires idle { IsIdle (state S.Store conn.old) }
     ensures counted { FindsThat result Counts (state S.Store conn.old) (state S.Store conn.new) }
     ensures few { IfOk result (λ found. IfSome found (λ count. count ≤ 999999)) }
@@ -166,7 +166,7 @@ fn read_numbers<S: Alter>(conn: &mut Connection<S>) -> Result<Vec<Row>, KeepErro
 }
 
 /// How many numbers there are, if they are those from 1 on, and at most 999,999.
-pub(crate) fn count_numbers(rows: &[Row]) -> Option<u32>
+fn count_numbers(rows: &[Row]) -> Option<u32>
     ensures found { IfSome result (λ count. rows.now ≡ number_rows 1 count) }
     ensures few { IfSome result (λ count. count ≤ 999999) }
     ensures none { result ≡ None → (count : ℕ) → count ≤ 999999 → rows.now ≡ number_rows 1 count → ⊥ }

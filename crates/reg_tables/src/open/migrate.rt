@@ -17,9 +17,9 @@ ghost use Rattle.reg_tables.specs.declared.schema.format.Format.TheVariants.{Fir
 use crate::error::{AdoptError, MigrateError};
 use crate::keep::SqlKeep;
 use crate::memory::Memory;
-use crate::open::known::recall_first;
+use crate::open::recall::recall_first;
 use crate::open::second_format::SecondFormat;
-use crate::open::tables::test_tables;
+use crate::open::tables::examine_tables;
 use crate::open::{close_file, connect};
 use crate::schema::format::Format;
 use crate::write::change::change_tables;
@@ -155,7 +155,7 @@ fn migrate_tables<S: Alter, P: Progress>(
     ensures left { IfErr result (λ e. SurvivesRefusedMigration e
         (state S.Store conn.old) (state S.Store conn.new)) }
 {
-    match test_tables(conn, Format::First) {
+    match examine_tables(conn, Format::First) {
         Ok(()) => {}
         Err(error) => return Err(error),
     }

@@ -19,7 +19,7 @@ use sqlite::{Alter, Connection, Error, Row};
 use sqlite_schema::schema::Schema;
 
 /// Whether the tables are those of the format, and no transaction runs; or else why they are refused.
-pub(crate) fn test_tables<S: Alter>(
+pub(crate) fn examine_tables<S: Alter>(
     conn: &mut Connection<S>,
     format: Format,
 ) -> Result<(), AdoptError>

@@ -38,10 +38,7 @@ pub(crate) fn read_graph<S: Alter>(
 }
 
 /// How many DATA rows are kept of a deposit.
-pub(crate) fn read_data_count<S: Alter>(
-    conn: &mut Connection<S>,
-    number: u32,
-) -> Result<u32, KeepError>
+fn read_data_count<S: Alter>(conn: &mut Connection<S>, number: u32) -> Result<u32, KeepError>
     requires idle { IsIdle (state S.Store conn.old) }
     ensures found { FindsThat result (λ db n. HasRows number (line_table db.trees) n)
         (state S.Store conn.old) (state S.Store conn.new) }
@@ -61,7 +58,7 @@ pub(crate) fn read_data_count<S: Alter>(
 }
 
 /// The steps that are kept of a deposit.
-pub(crate) fn read_steps<S: Alter>(
+fn read_steps<S: Alter>(
     conn: &mut Connection<S>,
     alloc: Global,
     number: u32,
@@ -89,7 +86,7 @@ pub(crate) fn read_steps<S: Alter>(
 }
 
 /// A graph of so many rows with these steps, where each lies between two of them.
-pub(crate) fn graph_of(rows: u32, steps: Vec<(u32, u32)>) -> Result<Graph, KeepError>
+fn graph_of(rows: u32, steps: Vec<(u32, u32)>) -> Result<Graph, KeepError>
     ensures rows { IfOk result (λ graph. graph.rows ≡ rows) }
     ensures steps { IfOk result (λ graph. graph.steps ≡ steps.items) }
     ensures refused { IfErr result (λ e. e ≢ KeepError.Full) }

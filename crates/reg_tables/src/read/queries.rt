@@ -84,8 +84,8 @@ fn probe<S: Alter>(conn: &mut Connection<S>) -> bool
     }
 }
 
-/// Why a row is not read: out of memory, or it is not one of a register.
-pub(crate) fn read_error(error: &Error) -> KeepError
+/// What an error of the database is answered: NoMemory, or else Store.
+pub(crate) fn keep_error(error: &Error) -> KeepError
     ensures refused { result ≢ KeepError.Full }
     ensures store { result ≡ KeepError.Store → error.now ≢ Error.SqliteFailure ErrorCode.OutOfMemory }
 {

@@ -14,7 +14,7 @@ ghost use Rattle.reg_store.specs.Fit.{IsNamed};
 ghost use Rattle.reg_tables.specs.ReadsProject.{target_cell};
 
 use crate::read::gather::Gather;
-use crate::read::queries::read_error;
+use crate::read::queries::keep_error;
 use ags_text::{Bytes, Sequence};
 use reg_policy::{Day, Name, NameError};
 use reg_store::{KeepError, Kept, KeptRow};
@@ -185,7 +185,7 @@ fn number_column(row: &Row, at: usize) -> Result<u32, KeepError>
 {
     match row.get(at) {
         Ok(number) => Ok(number),
-        Err(error) => Err(read_error(&error)),
+        Err(error) => Err(keep_error(&error)),
     }
 }
 
@@ -197,7 +197,7 @@ fn bytes_column(row: &Row, at: usize) -> Result<Bytes, KeepError>
 {
     let read: Vec<u8> = match row.get(at) {
         Ok(read) => read,
-        Err(error) => return Err(read_error(&error)),
+        Err(error) => return Err(keep_error(&error)),
     };
     Ok(Sequence::from_vec(read))
 }
@@ -208,7 +208,7 @@ fn text_column(row: &Row, at: usize) -> Result<Bytes, KeepError>
 {
     let read: String = match row.get(at) {
         Ok(read) => read,
-        Err(error) => return Err(read_error(&error)),
+        Err(error) => return Err(keep_error(&error)),
     };
     Ok(Sequence::from_vec(read.into_bytes()))
 }
@@ -223,7 +223,7 @@ fn name_column(alloc: Global, row: &Row, at: usize) -> Result<Name, KeepError>
 {
     let text: String = match row.get(at) {
         Ok(text) => text,
-        Err(error) => return Err(read_error(&error)),
+        Err(error) => return Err(keep_error(&error)),
     };
     match Name::read(alloc, text.as_str()) {
         Ok(name) => Ok(name),
@@ -242,7 +242,7 @@ fn day_column(row: &Row, at: usize) -> Result<Day, KeepError>
 {
     let number: i32 = match row.get(at) {
         Ok(number) => number,
-        Err(error) => return Err(read_error(&error)),
+        Err(error) => return Err(keep_error(&error)),
     };
     match Day::new(number) {
         Some(day) => Ok(day),

@@ -12,7 +12,7 @@ use Rattle.reg_tables.proofs.keep.SqlKeep.adopt.Goals as goal
 
 pub invariant_of-result : goal.invariant_of-result
 invariant_of-result g c =
-    let mid = state g.S.Store c.test_tables.new.conn in
+    let mid = state g.S.Store c.examine_tables.new.conn in
     let new = state g.S.Store c.recall.new.conn in
     let made = c.in-Ok-recall.ensures in
     let settled = λ (clean : HasCleanDisk new).
@@ -27,7 +27,7 @@ invariant_of-result g c =
 
 pub returns-in-Ok-recall-clause-adopted : goal.returns-in-Ok-recall-clause-adopted
 returns-in-Ok-recall-clause-adopted g c clean =
-    let mid = state g.S.Store c.test_tables.new.conn in
+    let mid = state g.S.Store c.examine_tables.new.conn in
     let new = state g.S.Store c.recall.new.conn in
     let made = c.in-Ok-recall.ensures in
     let same = made.quiet.same clean refl in

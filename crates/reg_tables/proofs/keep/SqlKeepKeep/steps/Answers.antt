@@ -1,6 +1,6 @@
 use Rattle.std.proofs.Common.{refl, sym, ◌∙◌}
 use Rattle.sqlite.specs.Held.{state}
-use Rattle.reg_tables.proofs.QuietLaws.{clean_before}
+use Rattle.reg_tables.proofs.QuietLaws.{read_before}
 use Rattle.reg_tables.proofs.KeepLaws.{idle_at}
 use Rattle.reg_tables.proofs.MethodsLaws.{graph_at}
 use Rattle.reg_tables.specs.Register.{deposits_in}
@@ -22,11 +22,8 @@ invariant_of-self-clause-kept g c works clean =
 pub invariant_of-self-clause-agrees : goal.invariant_of-self-clause-agrees
 invariant_of-self-clause-agrees g c works clean =
     let keep = c.args.self.now in
-    let old = state g.S.Store keep.connection in
-    let new = state g.S.Store c.read_graph-found.new.conn in
-    let first = clean_before old new c.read_graph-found.ensures.quiet.survives clean in
-    let its = c.requires.number first in
-    agrees_noted old new keep.memory c.note_graph.new.self keep.dictionary c.args.n (keep.agrees c.requires.working) c.read_graph-found.ensures.quiet c.note_graph.ensures its (graph_at {s = old} c.args.n c.read_graph-found.result its.0 (keep.kept c.requires.working first) (c.read_graph-found.ensures.rows clean) (c.read_graph-found.ensures.steps clean)) clean (sym c.has_store_error-self.ensures ∙ works)
+    agrees_noted (state g.S.Store keep.connection) (state g.S.Store c.read_graph-found.new.conn) keep.memory c.note_graph.new.self keep.dictionary c.args.n (keep.agrees c.requires.working) c.read_graph-found.ensures.quiet c.note_graph.ensures c.requires.number
+    (λ first. graph_at {s = state g.S.Store keep.connection} c.args.n c.read_graph-found.result (c.requires.number first).0 (keep.kept c.requires.working first) (c.read_graph-found.ensures.rows clean) (c.read_graph-found.ensures.steps clean)) clean (sym c.has_store_error-self.ensures ∙ works)
 
 pub returns-clause-leaves : goal.returns-clause-leaves
 returns-clause-leaves g c = reads_still (λ k. state g.S.Store k.connection) (λ k. k.dictionary) 999999 (λ k. k.has_failed) _ _ _ c.read_graph-found.ensures.quiet refl c.has_store_error-self.ensures
@@ -34,11 +31,8 @@ returns-clause-leaves g c = reads_still (λ k. state g.S.Store k.connection) (λ
 pub returns-clause-read : goal.returns-clause-read
 returns-clause-read g c clean =
     let keep = c.args.self.now in
-    let old = state g.S.Store keep.connection in
-    let new = state g.S.Store c.read_graph-found.new.conn in
-    let first = clean_before old new c.read_graph-found.ensures.quiet.survives clean in
-    let its = c.requires.number first in
-    graph_at {s = old} c.args.n c.read_graph-found.result its.0 (keep.kept c.requires.working first) (c.read_graph-found.ensures.rows clean) (c.read_graph-found.ensures.steps clean)
+    read_before (state g.S.Store keep.connection) (state g.S.Store c.read_graph-found.new.conn) c.read_graph-found.ensures.quiet (keep.kept c.requires.working) c.requires.number
+    (λ its kept. graph_at {s = state g.S.Store keep.connection} c.args.n c.read_graph-found.result its.0 kept (c.read_graph-found.ensures.rows clean) (c.read_graph-found.ensures.steps clean)) clean
 
 pub returns-in-Some-clause-read : goal.returns-in-Some-clause-read
 returns-in-Some-clause-read g c clean =

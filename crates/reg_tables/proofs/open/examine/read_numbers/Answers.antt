@@ -1,6 +1,5 @@
-use Rattle.std.proofs.Common.{arith}
-use Rattle.sqlite.specs.State.{HasCleanDisk}
 use Rattle.sqlite.specs.Held.{state}
+use Rattle.reg_tables.proofs.QuietLaws.{tables_before}
 use Rattle.reg_tables.proofs.MeaningLaws.{all_numbers_read}
 use Rattle.reg_tables.proofs.OrderedLaws.{numbers_by, numbers_found_by}
 use Rattle.reg_tables.proofs.open.examine.read_numbers.Goals as goal
@@ -10,14 +9,8 @@ query-requires-clause-plain g c clean = all_numbers_read.1 _ (c.requires.idle.sc
 
 pub returns-clause-all : goal.returns-clause-all
 returns-clause-all g c clean =
-    let old = state g.S.Store c.args.conn.now in
-    let new = state g.S.Store c.query.new.conn in
-    let first : HasCleanDisk old = omega (arith, c.query.ensures.quiet.survives.clean) in
-    numbers_by (λ rows. rows.items) old new c.query.result (c.requires.idle.schema first) (c.query.ensures.shown clean)
+    numbers_by (λ rows. rows.items) (state g.S.Store c.args.conn.now) (state g.S.Store c.query.new.conn) c.query.result (tables_before c.requires.idle c.query.ensures.quiet clean) (c.query.ensures.shown clean)
 
 pub returns-clause-found : goal.returns-clause-found
 returns-clause-found g c clean =
-    let old = state g.S.Store c.args.conn.now in
-    let new = state g.S.Store c.query.new.conn in
-    let first : HasCleanDisk old = omega (arith, c.query.ensures.quiet.survives.clean) in
-    numbers_found_by (λ rows. rows.items) old new c.query.result (c.requires.idle.schema first) (c.query.ensures.shown clean)
+    numbers_found_by (λ rows. rows.items) (state g.S.Store c.args.conn.now) (state g.S.Store c.query.new.conn) c.query.result (tables_before c.requires.idle c.query.ensures.quiet clean) (c.query.ensures.shown clean)

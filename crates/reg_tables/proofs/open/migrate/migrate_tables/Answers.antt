@@ -17,7 +17,7 @@ returns-in-Err-recall_first-clause-refused g c clean =
 
 pub returns-in-Ok-change_tables-clause-found : goal.returns-in-Ok-change_tables-clause-found
 returns-in-Ok-change_tables-clause-found g c clean =
-    let start = state g.S.Store c.test_tables.new.conn in
+    let start = state g.S.Store c.examine_tables.new.conn in
     let mid = state g.S.Store c.recall_first.new.conn in
     let new = state g.S.Store c.change_tables.new.conn in
     let found = c.in-Ok-recall_first.ensures in
@@ -28,7 +28,7 @@ returns-in-Ok-change_tables-clause-found g c clean =
 
 pub returns-in-Ok-change_tables-clause-migrated : goal.returns-in-Ok-change_tables-clause-migrated
 returns-in-Ok-change_tables-clause-migrated g c clean =
-    let start = state g.S.Store c.test_tables.new.conn in
+    let start = state g.S.Store c.examine_tables.new.conn in
     let mid = state g.S.Store c.recall_first.new.conn in
     let new = state g.S.Store c.change_tables.new.conn in
     let found = c.in-Ok-recall_first.ensures in
@@ -41,7 +41,7 @@ returns-in-Ok-change_tables-clause-migrated g c clean =
 
 pub returns-in-Ok-change_tables-clause-made : goal.returns-in-Ok-change_tables-clause-made
 returns-in-Ok-change_tables-clause-made g c =
-    let start = state g.S.Store c.test_tables.new.conn in
+    let start = state g.S.Store c.examine_tables.new.conn in
     let mid = state g.S.Store c.recall_first.new.conn in
     let new = state g.S.Store c.change_tables.new.conn in
     let found = c.in-Ok-recall_first.ensures in
@@ -51,7 +51,7 @@ returns-in-Ok-change_tables-clause-made g c =
 
 pub returns-in-Err-change_tables-clause-left : goal.returns-in-Err-change_tables-clause-left
 returns-in-Err-change_tables-clause-left g c =
-    let start = state g.S.Store c.test_tables.new.conn in
+    let start = state g.S.Store c.examine_tables.new.conn in
     let mid = state g.S.Store c.recall_first.new.conn in
     let new = state g.S.Store c.change_tables.new.conn in
     let found = c.in-Ok-recall_first.ensures in

@@ -1,6 +1,5 @@
-use Rattle.std.proofs.Common.{arith}
-use Rattle.sqlite.specs.State.{HasCleanDisk}
 use Rattle.sqlite.specs.Held.{state}
+use Rattle.reg_tables.proofs.QuietLaws.{tables_before}
 use Rattle.reg_tables.proofs.MeaningLaws.{front_read}
 use Rattle.reg_tables.proofs.ProjectLemmas.{front_lines}
 use Rattle.reg_tables.proofs.read.project.read_front.Goals as goal
@@ -10,7 +9,4 @@ take_shown-requires-clause-plain g c = front_read.1
 
 pub returns-in-Ok-clause-found : goal.returns-in-Ok-clause-found
 returns-in-Ok-clause-found g c clean =
-    let old = state g.S.Store c.args.conn.now in
-    let new = state g.S.Store c.take_shown.new.conn in
-    let first : HasCleanDisk old = omega (arith, c.take_shown.ensures.quiet.survives.clean) in
-    front_lines old new c.args.number c.take_shown.new.into.lines.items (c.requires.idle.schema first) (rw (c.params-to_sql.ensures) at (c.in-Ok.ensures.shown clean))
+    front_lines (state g.S.Store c.args.conn.now) (state g.S.Store c.take_shown.new.conn) c.args.number c.take_shown.new.into.lines.items (tables_before c.requires.idle c.take_shown.ensures.quiet clean) (rw (c.params-to_sql.ensures) at (c.in-Ok.ensures.shown clean))

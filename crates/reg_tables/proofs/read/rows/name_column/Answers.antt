@@ -5,5 +5,5 @@ use Rattle.reg_tables.proofs.read.rows.name_column.Goals as goal
 
 pub returns-in-Err-clause-other : goal.returns-in-Err-clause-other
 returns-in-Err-clause-other c is name named same =
-    let store : c.read_error.result ≡ Store = cc in
-    c.in-Err.ensures.kind (c.read_error.ensures.store store) c.requires (name, same, name_utf8 name named)
+    let store : c.keep_error.result ≡ Store = cc in
+    c.in-Err.ensures.kind (c.keep_error.ensures.store store) c.requires (name, same, name_utf8 name named)

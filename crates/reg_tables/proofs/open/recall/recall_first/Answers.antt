@@ -3,7 +3,7 @@ use Rattle.sqlite.specs.Held.{state}
 use Rattle.reg_tables.specs.declared.schema.format.Format.TheVariants.{First}
 use Rattle.reg_tables.proofs.ExamineLemmas.{refused_sent}
 use Rattle.reg_tables.proofs.MigrateLemmas.{recalled_first}
-use Rattle.reg_tables.proofs.open.known.recall_first.Goals as goal
+use Rattle.reg_tables.proofs.open.recall.recall_first.Goals as goal
 
 pub returns-in-Err-clause-refused : goal.returns-in-Err-clause-refused
 returns-in-Err-clause-refused g c clean =

@@ -6,7 +6,7 @@ use Rattle.reg_tables.specs.Adoption.{FindsMarks, HoldsMarks}
 use Rattle.reg_tables.proofs.QuietLaws.{clean_before}
 use Rattle.reg_tables.proofs.ExamineLemmas.{refused_sent}
 use Rattle.reg_tables.proofs.RecallLemmas.{recalled, refused_marks}
-use Rattle.reg_tables.proofs.open.known.recall.Goals as goal
+use Rattle.reg_tables.proofs.open.recall.recall.Goals as goal
 
 pub returns-in-Err-clause-refused : goal.returns-in-Err-clause-refused
 returns-in-Err-clause-refused g c clean = refused_sent Second (state g.S.Store c.args.conn.now).now c.in-Err.error (c.in-Err.ensures.examines clean)

@@ -3,7 +3,7 @@ use Rattle.sqlite.specs.Held.{state}
 use Rattle.reg_tables.specs.Tables.{format_tables}
 use Rattle.reg_tables.proofs.FormatLemmas.{autocommit_idle, refused_unstarted}
 use Rattle.reg_tables.proofs.QueryLemmas.{survives_none}
-use Rattle.reg_tables.proofs.open.tables.test_tables.Goals as goal
+use Rattle.reg_tables.proofs.open.tables.examine_tables.Goals as goal
 
 pub returns-then-not-has_meta-clause-refused : goal.returns-then-not-has_meta-clause-refused
 returns-then-not-has_meta-clause-refused g c clean = refused_unstarted c.args.format (state g.S.Store c.args.conn.now).now (search rules)
