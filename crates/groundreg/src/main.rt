@@ -3,11 +3,11 @@
 
 use jiff::Zoned;
 use jiff::tz::TimeZone;
-use reg_app::{Machine, Registers, run_words};
+use reg_app::{Machine, run_words};
 use reg_cli::{Fault, Watched};
 use reg_files::Files;
 use reg_policy::Day;
-use sqlite::Unknown;
+use sqlite::{Start, Unknown};
 use std::env;
 use std::io::{ErrorKind, IsTerminal, Read, Write};
 use std::process::ExitCode;
@@ -27,10 +27,11 @@ fn today(rt: &HostRuntime) -> Option<Day> {
     Day::new(now.date().to_plain().to_unix_epoch_day())
 }
 
-/// Runs the program over its three streams, of any types: what names the types of the real ones is kept short.
-fn run_program<G: Registers, R: Read + Drop, W: Write + Drop, E: Write + IsTerminal + Drop>(
+/// Runs the program over its three streams, of any types: what names the types of the real ones is kept short. `F`
+/// stands for what the files of a register held.
+fn run_program<F: Start, R: Read + Drop, W: Write + Drop, E: Write + IsTerminal + Drop>(
     rt: &HostRuntime,
-    registers: G,
+    start: F,
     input: R,
     out: W,
     err: E,
@@ -42,7 +43,7 @@ fn run_program<G: Registers, R: Read + Drop, W: Write + Drop, E: Write + IsTermi
     match words_given(rt) {
         Ok(words) => {
             let machine = Machine {
-                registers,
+                registers: Files::new(start),
                 today: today(rt),
                 is_terminal,
             };
@@ -60,6 +61,5 @@ fn run_program<G: Registers, R: Read + Drop, W: Write + Drop, E: Write + IsTermi
 }
 
 fn main(rt: HostRuntime) -> ExitCode {
-    let registers = Files::new(Unknown);
-    ExitCode::from(run_program(&rt, registers, rt.stdin(), rt.stdout(), rt.stderr()))
+    ExitCode::from(run_program(&rt, Unknown, rt.stdin(), rt.stdout(), rt.stderr()))
 }
