@@ -4,7 +4,7 @@ use Rattle.ags_rows.specs.Spelling.{Spells}
 use Rattle.std.proofs.lemmas.Result.{err_from_is_err_and}
 use Rattle.reg_store.specs.declared.keep.KeepError.TheVariants.{Store}
 use Rattle.reg_desk.specs.View.{project_line}
-use Rattle.reg_desk.proofs.Views.{spells_under}
+use Rattle.reg_desk.proofs.Views.{row_seen}
 use Rattle.reg_desk.proofs.view.permits_project.Goals as goal
 
 pub returns-in_err-headings-clause-broken : goal.returns-in_err-headings-clause-broken
@@ -28,5 +28,6 @@ returns-clause-may c =
     let row = project_line c.args.row.now in
     let headings = subst (λ (t : List ℕ). Spells t c.in_ok-headings.headings.items) c.as_slice.ensures c.in_ok-headings.ensures.read in
     let fields = subst (λ (t : List ℕ). Spells t c.in_ok-fields.fields.items) c.as_slice-2.ensures c.in_ok-fields.ensures.read in
-    c.permits.ensures row refl (spells_under row.headings c.as_slice-3.result.now (subst (Spells row.headings) (sym c.as_slice-3.ensures.value) headings))
-    (subst (Spells row.line) (sym c.as_slice-4.ensures.value) fields)
+    row_seen c.args.look.now row c.as_slice-3.result.now c.as_slice-4.result.now c.may_see.result refl
+    (subst (Spells row.headings) (sym c.as_slice-3.ensures.value) headings) (subst (Spells row.line) (sym c.as_slice-4.ensures.value) fields)
+    c.may_see.ensures
