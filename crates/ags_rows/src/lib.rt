@@ -22,7 +22,7 @@ pub use finding::{Finding, FindingList, FindingRef, NotedFindings};
 pub use places::Places;
 pub use rows::{Descriptor, Group, Row};
 pub use scanning::{RowsError, Scan};
-pub use spelling::cells;
+pub use spelling::{cells, push_cells};
 pub use writing::{quote, write_group, write_line, write_row};
 
 /// The greatest length of a deposited file, in bytes: 16 MiB.
