@@ -1,15 +1,19 @@
-use Rattle.std.proofs.Common.{ℕ, ◌∷◌, sym, ap, ◌∙◌}
+use Rattle.std.proofs.Common.{ℕ, [], ◌∷◌, ◌++◌, sym, ap, ◌∙◌, append-nil}
 use Rattle.std.proofs.lemmas.List.{nil_from_length}
+use Rattle.ags_rows.specs.Parsing.{undoubled}
 use Rattle.ags_rows.proofs.Pieces.{found, lacks_none, lacks_any, with_piece, without_piece}
-use Rattle.ags_rows.proofs.Fields.{read_begin, read_end, read_on, step_none, step_other, step_falls, return_spells_none, feed_spells_none}
+use Rattle.ags_rows.proofs.Fields.{one_more, read_begin, read_end, read_on, step_none, step_other, step_falls, return_spells_none, feed_spells_none}
 use Rattle.ags_rows.proofs.spelling.push_cells.Goals as goal
 use Rattle.ags_rows.proofs.spelling.push_cells.Goals.{then-contains-via-then-contains, then-contains-via-else-contains+then-contains-2}
 
 pub returns-then-contains : goal.returns-then-contains
-returns-then-contains c = elim c.then-contains.branch [
-  | then-contains-via-then-contains w ↦ return_spells_none c.args.line.now (lacks_any 13 c.args.line.now (sym c.contains.ensures.value ∙ w.if-contains.true))
-  | then-contains-via-else-contains+then-contains-2 w ↦ feed_spells_none c.args.line.now (lacks_any 10 c.args.line.now (sym w.contains-else-contains.ensures.value ∙ w.if-contains-2.true))
-]
+returns-then-contains c = (
+  elim c.then-contains.branch [
+    | then-contains-via-then-contains w ↦ return_spells_none c.args.line.now (lacks_any 13 c.args.line.now (sym c.contains.ensures.value ∙ w.if-contains.true))
+    | then-contains-via-else-contains+then-contains-2 w ↦ feed_spells_none c.args.line.now (lacks_any 10 c.args.line.now (sym w.contains-else-contains.ensures.value ∙ w.if-contains-2.true))
+  ],
+  ([], sym (append-nil c.args.found.now.items)),
+)
 
 pub loop-cell-init : goal.loop-cell-init
 loop-cell-init c =
@@ -21,7 +25,7 @@ pub returns-in_default : goal.returns-in_default
 returns-in_default c =
     let rest = c.loop-cell.rest.now in
     let i = c.loop-cell.invariant in
-    step_none c.args.line.now rest i.done i.complete (without_piece rest (rw c.in_default.is at c.in_ok-cell.ensures))
+    (step_none c.args.line.now rest i.done i.complete (without_piece rest (rw c.in_default.is at c.in_ok-cell.ensures)), (i.done, i.items))
 
 pub returns-in_default-split_first : goal.returns-in_default-split_first
 returns-in_default-split_first c =
@@ -38,8 +42,13 @@ returns-then-next-ne44 c =
     let next = c.in-Some-split_first.next.now in
     let i = c.loop-cell.invariant in
     let p = with_piece rest c.in-Some.cell c.in-Some.after.now (rw c.in-Some.is at c.in_ok-cell.ensures) in
-    let piece = p.1 ∙ ap (found p.0) c.in-Some-split_first.ensures.cases.0 in
-    step_other c.args.line.now rest p.0 more next i.done i.complete piece c.if-next-ne44.true
+    let piece = p.1 ∙ ap (found p.0) c.in-Some-split_first.ensures.cases.0 in (
+      step_other c.args.line.now rest p.0 more next i.done i.complete piece c.if-next-ne44.true,
+      (
+        i.done ++ undoubled p.0 ∷ [],
+        one_more c.args.found.now.items i.done c.loop-cell.found.items c.push.new.self.items (undoubled p.0) i.items (rw p.2 at c.in_ok-push.ensures.items),
+      ),
+    )
 
 pub loop-cell-smaller : goal.loop-cell-smaller
 loop-cell-smaller c =
