@@ -24,6 +24,121 @@ use ags_dict::Dictionary;
 use ags_rows::{Code, FindingList, Group, NotedFindings, Places};
 use std::alloc::{AllocError, Global};
 
+/// The findings of the fourth phase, in order, each once.
+pub(crate) fn header_findings(
+    alloc: Global,
+    given: &Dictionary,
+    extended: &Dictionary,
+    groups: &[Group],
+) -> Result<FindingList, AllocError>
+    ensures { IfOk result (AreExactly (StandsInDictionary given.now extended.now groups.now)) }
+{
+    let mut findings = NotedFindings::new(alloc);
+    note_header_groups(alloc, given, extended, groups, &mut findings)?;
+    Ok(findings.in_order())
+}
+
+/// The same, of these groups.
+fn note_header_groups(
+    alloc: Global,
+    given: &Dictionary,
+    extended: &Dictionary,
+    groups: &[Group],
+    findings: &mut NotedFindings,
+) -> Result<(), AllocError>
+    ensures { OnOk result (Adds (StandsInDictionary given.now extended.now groups.now) findings.old findings.new) }
+{
+    let file = NamedGroups::of(alloc, groups)?;
+    note_file(alloc, given, extended, &file, findings)
+}
+
+/// What the groups break, and what the file lacks.
+fn note_file(
+    alloc: Global,
+    given: &Dictionary,
+    extended: &Dictionary,
+    file: &NamedGroups,
+    findings: &mut NotedFindings,
+) -> Result<(), AllocError>
+    ensures { OnOk result (Adds (StandsInDictionary given.now extended.now file.now) findings.old findings.new) }
+{
+    let code = unknown_code(file.groups());
+    note_all_header_rows(alloc, given, extended, file, code, findings)?;
+    note_absent_groups(file, findings)
+}
+
+/// What the groups break, one after the other.
+fn note_all_header_rows(
+    alloc: Global,
+    given: &Dictionary,
+    extended: &Dictionary,
+    file: &NamedGroups,
+    code: Code,
+    findings: &mut NotedFindings,
+) -> Result<(), AllocError>
+    ensures { OnOk result (Adds (InSome file.now (header_rules_of given.now extended.now file.now code))
+        findings.old findings.new) }
+{
+    let groups = file.groups();
+    for group in groups {
+        note_header_rows(alloc, given, extended, file, code, group, findings)?;
+    }
+    Ok(())
+}
+
+/// What one group breaks.
+fn note_header_rows(
+    alloc: Global,
+    given: &Dictionary,
+    extended: &Dictionary,
+    file: &NamedGroups,
+    code: Code,
+    group: &Group,
+    findings: &mut NotedFindings,
+) -> Result<(), AllocError>
+    ensures { OnOk result (Adds (OneOf (header_rules_of given.now extended.now file.now code group.now))
+        findings.old findings.new) }
+{
+    note_unknown_group(extended, code, group, findings)?;
+    note_lacking_parent(extended, file, group, findings)?;
+    note_known_heading_row(alloc, given, extended, code, group, findings)?;
+    note_only_rows(group, findings)
+}
+
+/// The same, where the dictionary has an entry for the group.
+fn note_known_heading_row(
+    alloc: Global,
+    given: &Dictionary,
+    extended: &Dictionary,
+    code: Code,
+    group: &Group,
+    findings: &mut NotedFindings,
+) -> Result<(), AllocError>
+    ensures { OnOk result (Adds (InKnownHeadingRow given.now extended.now code group.now)
+        findings.old findings.new) }
+{
+    if !extended.has_group(group.name.as_slice()) {
+        return Ok(());
+    }
+    note_heading_row(alloc, given, extended, code, group, findings)
+}
+
+/// What the HEADING row of a group breaks, where the dictionary knows the group.
+fn note_heading_row(
+    alloc: Global,
+    given: &Dictionary,
+    extended: &Dictionary,
+    code: Code,
+    group: &Group,
+    findings: &mut NotedFindings,
+) -> Result<(), AllocError>
+    ensures { OnOk result (Adds (OneOf (heading_row_rules given.now extended.now code group.now))
+        findings.old findings.new) }
+{
+    let row = Places::of_cells(alloc, group.headings.as_slice())?;
+    note_header_headings(given, extended, code, group, &row, findings)
+}
+
 /// What the HEADING row of a group breaks: these are its headings, where the dictionary knows the group.
 fn note_header_headings(
     given: &Dictionary,
@@ -47,40 +162,6 @@ fn note_header_headings(
     note_misnamed(given, extended, name, headings, line, findings)
 }
 
-/// What the HEADING row of a group breaks, where the dictionary knows the group.
-fn note_heading_row(
-    alloc: Global,
-    given: &Dictionary,
-    extended: &Dictionary,
-    code: Code,
-    group: &Group,
-    findings: &mut NotedFindings,
-) -> Result<(), AllocError>
-    ensures { OnOk result (Adds (OneOf (heading_row_rules given.now extended.now code group.now))
-        findings.old findings.new) }
-{
-    let row = Places::of_cells(alloc, group.headings.as_slice())?;
-    note_header_headings(given, extended, code, group, &row, findings)
-}
-
-/// The same, where the dictionary has an entry for the group.
-fn note_known_heading_row(
-    alloc: Global,
-    given: &Dictionary,
-    extended: &Dictionary,
-    code: Code,
-    group: &Group,
-    findings: &mut NotedFindings,
-) -> Result<(), AllocError>
-    ensures { OnOk result (Adds (InKnownHeadingRow given.now extended.now code group.now)
-        findings.old findings.new) }
-{
-    if !extended.has_group(group.name.as_slice()) {
-        return Ok(());
-    }
-    note_heading_row(alloc, given, extended, code, group, findings)
-}
-
 /// What the DATA rows of PROJ and TRAN break.
 fn note_only_rows(group: &Group, findings: &mut NotedFindings) -> Result<(), AllocError>
     ensures { OnOk result (Adds (InOnlyRows group.now) findings.old findings.new) }
@@ -91,44 +172,6 @@ fn note_only_rows(group: &Group, findings: &mut NotedFindings) -> Result<(), All
     note_further_rows(group, Code::Rule14, b"TRAN", findings)
 }
 
-/// What one group breaks.
-fn note_header_rows(
-    alloc: Global,
-    given: &Dictionary,
-    extended: &Dictionary,
-    file: &NamedGroups,
-    code: Code,
-    group: &Group,
-    findings: &mut NotedFindings,
-) -> Result<(), AllocError>
-    ensures { OnOk result (Adds (OneOf (header_rules_of given.now extended.now file.now code group.now))
-        findings.old findings.new) }
-{
-    note_unknown_group(extended, code, group, findings)?;
-    note_lacking_parent(extended, file, group, findings)?;
-    note_known_heading_row(alloc, given, extended, code, group, findings)?;
-    note_only_rows(group, findings)
-}
-
-/// What the groups break, one after the other.
-fn note_all_header_rows(
-    alloc: Global,
-    given: &Dictionary,
-    extended: &Dictionary,
-    file: &NamedGroups,
-    code: Code,
-    findings: &mut NotedFindings,
-) -> Result<(), AllocError>
-    ensures { OnOk result (Adds (InSome file.now (header_rules_of given.now extended.now file.now code))
-        findings.old findings.new) }
-{
-    let groups = file.groups();
-    for group in groups {
-        note_header_rows(alloc, given, extended, file, code, group, findings)?;
-    }
-    Ok(())
-}
-
 /// What the file lacks.
 fn note_absent_groups(file: &NamedGroups, findings: &mut NotedFindings) -> Result<(), AllocError>
     ensures { OnOk result (Adds (OneOf (file_rules (contents_of file.now))) findings.old findings.new) }
@@ -137,47 +180,4 @@ fn note_absent_groups(file: &NamedGroups, findings: &mut NotedFindings) -> Resul
     note_absent_group(file, Code::Rule14, b"TRAN", findings)?;
     note_absent_group(file, Code::Rule15, b"UNIT", findings)?;
     note_absent_group(file, Code::Rule17, b"TYPE", findings)
-}
-
-/// What the groups break, and what the file lacks.
-fn note_file(
-    alloc: Global,
-    given: &Dictionary,
-    extended: &Dictionary,
-    file: &NamedGroups,
-    findings: &mut NotedFindings,
-) -> Result<(), AllocError>
-    ensures { OnOk result (Adds (StandsInDictionary given.now extended.now file.now) findings.old findings.new) }
-{
-    let code = unknown_code(file.groups());
-    note_all_header_rows(alloc, given, extended, file, code, findings)?;
-    note_absent_groups(file, findings)
-}
-
-/// The same, of these groups.
-fn note_header_groups(
-    alloc: Global,
-    given: &Dictionary,
-    extended: &Dictionary,
-    groups: &[Group],
-    findings: &mut NotedFindings,
-) -> Result<(), AllocError>
-    ensures { OnOk result (Adds (StandsInDictionary given.now extended.now groups.now) findings.old findings.new) }
-{
-    let file = NamedGroups::of(alloc, groups)?;
-    note_file(alloc, given, extended, &file, findings)
-}
-
-/// The findings of the fourth phase, in order, each once.
-pub(crate) fn header_findings(
-    alloc: Global,
-    given: &Dictionary,
-    extended: &Dictionary,
-    groups: &[Group],
-) -> Result<FindingList, AllocError>
-    ensures { IfOk result (AreExactly (StandsInDictionary given.now extended.now groups.now)) }
-{
-    let mut findings = NotedFindings::new(alloc);
-    note_header_groups(alloc, given, extended, groups, &mut findings)?;
-    Ok(findings.in_order())
 }

@@ -13,52 +13,6 @@ use crate::placed::{PlacedRow, field};
 use ags_dict::Dictionary;
 use std::alloc::{AllocError, Global};
 
-/// Whether two rows have equal entries at these places.
-fn agree(
-    row: &PlacedRow<'_, '_>,
-    places: &[Option<usize>],
-    other: &PlacedRow<'_, '_>,
-    other_places: &[Option<usize>],
-) -> bool
-    ensures { HaveEqualEntries row.now places.now other.now other_places.now → IsTrue result }
-{
-    let count = places.len().min(other_places.len());
-    for index in 0..count {
-        let here = places[index];
-        let there = other_places[index];
-        let entry = field(row, here);
-        let other_entry = field(other, there);
-        if entry != other_entry {
-            return false;
-        }
-    }
-    true
-}
-
-/// Whether the other row is not of the group at this place, or agrees with the row.
-fn may_be_parent(
-    row: &PlacedRow<'_, '_>,
-    places: &[Option<usize>],
-    other: &PlacedRow<'_, '_>,
-    place: usize,
-    other_places: &[Option<usize>],
-) -> bool
-    ensures apart { (other.now.place ≡ place → ⊥) → IsTrue result }
-    ensures agree { HaveEqualEntries row.now places.now other.now other_places.now → IsTrue result }
-{
-    other.place != place || agree(row, places, other, other_places)
-}
-
-/// Whether the entry at the place is the one that is asked for, where there is a list.
-fn may_have(entries: Option<&[&[u8]]>, place: usize, asked: &[u8]) -> bool
-    ensures { IfSome entries.entry (λ list. AgreesAt list.now place asked.now) → IsTrue result }
-{
-    match entries {
-        Some(list) => place >= list.len() || list[place] == asked,
-        None => true,
-    }
-}
-
 /// Those of the rows of the parent group that may be parent rows of this row: those that agree with it, and those of
 /// other groups of that name. Where there is a list of first entries, rows with another one are not looked at.
 pub(crate) fn candidates<'s>(
@@ -95,4 +49,50 @@ pub(crate) fn candidates<'s>(
         }
     }
     Ok(chosen)
+}
+
+/// Whether the entry at the place is the one that is asked for, where there is a list.
+fn may_have(entries: Option<&[&[u8]]>, place: usize, asked: &[u8]) -> bool
+    ensures { IfSome entries.entry (λ list. AgreesAt list.now place asked.now) → IsTrue result }
+{
+    match entries {
+        Some(list) => place >= list.len() || list[place] == asked,
+        None => true,
+    }
+}
+
+/// Whether the other row is not of the group at this place, or agrees with the row.
+fn may_be_parent(
+    row: &PlacedRow<'_, '_>,
+    places: &[Option<usize>],
+    other: &PlacedRow<'_, '_>,
+    place: usize,
+    other_places: &[Option<usize>],
+) -> bool
+    ensures apart { (other.now.place ≡ place → ⊥) → IsTrue result }
+    ensures agree { HaveEqualEntries row.now places.now other.now other_places.now → IsTrue result }
+{
+    other.place != place || agree(row, places, other, other_places)
+}
+
+/// Whether two rows have equal entries at these places.
+fn agree(
+    row: &PlacedRow<'_, '_>,
+    places: &[Option<usize>],
+    other: &PlacedRow<'_, '_>,
+    other_places: &[Option<usize>],
+) -> bool
+    ensures { HaveEqualEntries row.now places.now other.now other_places.now → IsTrue result }
+{
+    let count = places.len().min(other_places.len());
+    for index in 0..count {
+        let here = places[index];
+        let there = other_places[index];
+        let entry = field(row, here);
+        let other_entry = field(other, there);
+        if entry != other_entry {
+            return false;
+        }
+    }
+    true
 }

@@ -34,30 +34,31 @@ pub(crate) struct EntryLists<'l, 's> {
 /// themselves, which takes longer and no memory.
 const ENTRIES_A_ROW: usize = 4;
 
-/// The entries of these rows under the heading.
-fn entry_list<'l, 's>(
+/// The lists for the look-ups that one row uses.
+pub(crate) fn entry_lists<'l, 's>(
     alloc: Global,
     dictionary: &Dictionary,
     rows: &[PlacedRow<'s, '_>],
     families: &[Family<'_, '_>],
-    numbers: &'l [u32],
-    heading: &'s [u8],
-) -> Result<EntryList<'l, 's>, AllocError>
+    links: &[ParentLinks<'l, 's>],
+    users: &[Users],
+) -> Result<EntryLists<'l, 's>, AllocError>
     requires kept { All (HasFamily dictionary.now families.now) rows.now }
-    requires below { All (λ n. n < length rows.now) numbers.now }
-    ensures { IfOk result (IsEntryList rows.now) }
+    requires numbers { All (AreNumbers (length rows.now)) links.now }
+    requires size { length users.now ≡ length links.now }
+    ensures { IfOk result (λ lists. All (IsEntryList rows.now) lists.lists.items) }
 {
-    let mut entries = Vec::with_capacity(alloc, numbers.len())?;
-    for number in numbers {
-        let row = &rows[*number as usize];
-        let place = families[row.place].headings.find(heading);
-        entries.push(field(row, place))?;
+    let mut lists = EntryLists {
+        lists: Vec::new(alloc),
+        places: BTreeMap::new(alloc),
+        room: rows.len().saturating_mul(ENTRIES_A_ROW),
+    };
+    for (place, of_group) in links.iter().enumerate() {
+        if let Users::One(_) = users[place] {
+            add_list(alloc, dictionary, rows, families, of_group, &mut lists)?;
+        }
     }
-    Ok(EntryList {
-        rows: numbers,
-        heading,
-        entries,
-    })
+    Ok(lists)
 }
 
 /// Adds the list for these links, unless there is one, it has no room, or they have no rows or no heading.
@@ -90,38 +91,30 @@ fn add_list<'l, 's>(
     Ok(())
 }
 
-/// The lists for the look-ups that one row uses.
-pub(crate) fn entry_lists<'l, 's>(
+/// The entries of these rows under the heading.
+fn entry_list<'l, 's>(
     alloc: Global,
     dictionary: &Dictionary,
     rows: &[PlacedRow<'s, '_>],
     families: &[Family<'_, '_>],
-    links: &[ParentLinks<'l, 's>],
-    users: &[Users],
-) -> Result<EntryLists<'l, 's>, AllocError>
+    numbers: &'l [u32],
+    heading: &'s [u8],
+) -> Result<EntryList<'l, 's>, AllocError>
     requires kept { All (HasFamily dictionary.now families.now) rows.now }
-    requires numbers { All (AreNumbers (length rows.now)) links.now }
-    requires size { length users.now ≡ length links.now }
-    ensures { IfOk result (λ lists. All (IsEntryList rows.now) lists.lists.items) }
+    requires below { All (λ n. n < length rows.now) numbers.now }
+    ensures { IfOk result (IsEntryList rows.now) }
 {
-    let mut lists = EntryLists {
-        lists: Vec::new(alloc),
-        places: BTreeMap::new(alloc),
-        room: rows.len().saturating_mul(ENTRIES_A_ROW),
-    };
-    for (place, of_group) in links.iter().enumerate() {
-        if let Users::One(_) = users[place] {
-            add_list(alloc, dictionary, rows, families, of_group, &mut lists)?;
-        }
+    let mut entries = Vec::with_capacity(alloc, numbers.len())?;
+    for number in numbers {
+        let row = &rows[*number as usize];
+        let place = families[row.place].headings.find(heading);
+        entries.push(field(row, place))?;
     }
-    Ok(lists)
-}
-
-/// Whether the list is that of these rows and this heading.
-fn is_list_of(list: &EntryList<'_, '_>, numbers: &[u32], heading: &[u8]) -> bool
-    ensures { IsTrue result → (list.now.rows.now ≡ numbers.now) × (list.now.heading.now ≡ heading.now) }
-{
-    list.rows == numbers && list.heading == heading
+    Ok(EntryList {
+        rows: numbers,
+        heading,
+        entries,
+    })
 }
 
 /// The entries of the rows of the parent group under the first link heading, if such a list was made. The list that is
@@ -146,4 +139,11 @@ pub(crate) fn leading_entries<'e, 's>(
     } else {
         None
     }
+}
+
+/// Whether the list is that of these rows and this heading.
+fn is_list_of(list: &EntryList<'_, '_>, numbers: &[u32], heading: &[u8]) -> bool
+    ensures { IsTrue result → (list.now.rows.now ≡ numbers.now) × (list.now.heading.now ≡ heading.now) }
+{
+    list.rows == numbers && list.heading == heading
 }

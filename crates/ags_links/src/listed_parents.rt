@@ -21,6 +21,30 @@ pub(crate) struct ListedParents {
     pub(crate) spans: Vec<Span>,
 }
 
+/// The parent rows of each row. The rows by group are dropped before the spans are made, and the texts once they are
+/// looked up.
+pub(crate) fn listed_parents(
+    alloc: Global,
+    groups: &[Group<'_>],
+    dictionary: &Dictionary,
+    rows: &[PlacedRow<'_, '_>],
+    families: &[Family<'_, '_>],
+) -> Result<ListedParents, AllocError>
+    requires few { length rows.now < 2 ^ 32 }
+    requires placed { All (IsPlaced groups.now) rows.now }
+    requires kept { All (HasFamily dictionary.now families.now) rows.now }
+    requires families { AreFamilies dictionary.now groups.now families.now }
+    ensures { IfOk result (λ listed. AreParentLists dictionary.now rows.now listed.parents listed.spans.items) }
+{
+    let looked_up = {
+        let by_group = rows_by_group(alloc, rows)?;
+        parents(alloc, groups, dictionary, rows, families, &by_group)?
+    };
+    let spans = parent_spans(alloc, rows, &looked_up)?;
+    let parents = without_texts(alloc, looked_up)?;
+    Ok(ListedParents { parents, spans })
+}
+
 /// Where the parent rows of each row are in the look-up of its group. Rows that follow one another often belong to rows
 /// that do, so those of a row are looked for first where those of the row before end.
 fn parent_spans(
@@ -45,18 +69,6 @@ fn parent_spans(
     Ok(spans)
 }
 
-/// The rows of each look-up.
-fn rows_alone(alloc: Global, lookups: &[Lookup]) -> Result<Vec<Vec<u32>>, AllocError>
-    ensures { IfOk result (λ lists. AreRowsOf lookups.now lists.items) }
-{
-    let mut lists = Vec::new(alloc);
-    for lookup in lookups {
-        let list = Vec::from_slice(alloc, all_rows(lookup))?;
-        lists.push(list)?;
-    }
-    Ok(lists)
-}
-
 /// The rows of each look-up. The texts that these were found by are dropped.
 fn without_texts(alloc: Global, parents: ParentLookups) -> Result<ParentLists, AllocError>
     ensures groups { IfOk result (λ kept. kept.of_groups ≡ parents.of_groups) }
@@ -69,26 +81,14 @@ fn without_texts(alloc: Global, parents: ParentLookups) -> Result<ParentLists, A
     })
 }
 
-/// The parent rows of each row. The rows by group are dropped before the spans are made, and the texts once they are
-/// looked up.
-pub(crate) fn listed_parents(
-    alloc: Global,
-    groups: &[Group<'_>],
-    dictionary: &Dictionary,
-    rows: &[PlacedRow<'_, '_>],
-    families: &[Family<'_, '_>],
-) -> Result<ListedParents, AllocError>
-    requires few { length rows.now < 2 ^ 32 }
-    requires placed { All (IsPlaced groups.now) rows.now }
-    requires kept { All (HasFamily dictionary.now families.now) rows.now }
-    requires families { AreFamilies dictionary.now groups.now families.now }
-    ensures { IfOk result (λ listed. AreParentLists dictionary.now rows.now listed.parents listed.spans.items) }
+/// The rows of each look-up.
+fn rows_alone(alloc: Global, lookups: &[Lookup]) -> Result<Vec<Vec<u32>>, AllocError>
+    ensures { IfOk result (λ lists. AreRowsOf lookups.now lists.items) }
 {
-    let looked_up = {
-        let by_group = rows_by_group(alloc, rows)?;
-        parents(alloc, groups, dictionary, rows, families, &by_group)?
-    };
-    let spans = parent_spans(alloc, rows, &looked_up)?;
-    let parents = without_texts(alloc, looked_up)?;
-    Ok(ListedParents { parents, spans })
+    let mut lists = Vec::new(alloc);
+    for lookup in lookups {
+        let list = Vec::from_slice(alloc, all_rows(lookup))?;
+        lists.push(list)?;
+    }
+    Ok(lists)
 }

@@ -13,29 +13,19 @@ use crate::index::{Index, each_once};
 use ags_rows::is_definition;
 use std::alloc::{AllocError, Global};
 
-/// Adds the rows that the parts name; a part that names none adds none.
-fn add_named(
+/// The rows that a row steps to, rising, each once.
+pub(crate) fn targets(
+    alloc: Global,
     index: &Index<'_, '_, '_>,
-    parts: &[&[u8]],
-    found: &mut Vec<u32>,
-) -> Result<(), AllocError>
-    ensures { OnOk result (AddsRows found.old.items found.new.items
-        (IsNamedAmong index.now (map (λ p. p.now) parts.now))) }
-{
-    for part in parts {
-        let rows = index.named(part)?;
-        found.extend_from_slice(rows)?;
-    }
-    Ok(())
-}
-
-/// Adds the rows that the row's record links name.
-fn add_links(index: &Index<'_, '_, '_>, row: u32, found: &mut Vec<u32>) -> Result<(), AllocError>
+    row: u32,
+) -> Result<Vec<u32>, AllocError>
     requires { row < length (rows_in index.now) }
-    ensures { OnOk result (AddsRows found.old.items found.new.items (IsLinkedAt index.now row)) }
+    ensures { IfOk result (λ rows. ListsRows rows.items (StepAt index.now row)) }
 {
-    let parts = index.linked_parts(row)?;
-    add_named(index, &parts, found)
+    let mut found = Vec::from_slice(alloc, index.parent_rows(row))?;
+    add_link_steps(index, row, &mut found)?;
+    add_file_steps(index, row, &mut found)?;
+    Ok(each_once(found))
 }
 
 /// Adds the rows that the row steps to by its record links, if it is in a data group.
@@ -55,11 +45,29 @@ fn add_link_steps(
     Ok(())
 }
 
-/// Whether the rows of a group can step to rows of FILE: it is a data group other than FILE.
-fn may_have_files(group: &[u8]) -> bool
-    ensures { result ≡ (not (is_definition group.now) && not (bytes_eq group.now (codes "FILE"))) }
+/// Adds the rows that the row's record links name.
+fn add_links(index: &Index<'_, '_, '_>, row: u32, found: &mut Vec<u32>) -> Result<(), AllocError>
+    requires { row < length (rows_in index.now) }
+    ensures { OnOk result (AddsRows found.old.items found.new.items (IsLinkedAt index.now row)) }
 {
-    !is_definition(group) && group != b"FILE".as_slice()
+    let parts = index.linked_parts(row)?;
+    add_named(index, &parts, found)
+}
+
+/// Adds the rows that the parts name; a part that names none adds none.
+fn add_named(
+    index: &Index<'_, '_, '_>,
+    parts: &[&[u8]],
+    found: &mut Vec<u32>,
+) -> Result<(), AllocError>
+    ensures { OnOk result (AddsRows found.old.items found.new.items
+        (IsNamedAmong index.now (map (λ p. p.now) parts.now))) }
+{
+    for part in parts {
+        let rows = index.named(part)?;
+        found.extend_from_slice(rows)?;
+    }
+    Ok(())
 }
 
 /// Adds the rows of FILE that the row steps to, if it is in a data group other than FILE.
@@ -79,17 +87,9 @@ fn add_file_steps(
     Ok(())
 }
 
-/// The rows that a row steps to, rising, each once.
-pub(crate) fn targets(
-    alloc: Global,
-    index: &Index<'_, '_, '_>,
-    row: u32,
-) -> Result<Vec<u32>, AllocError>
-    requires { row < length (rows_in index.now) }
-    ensures { IfOk result (λ rows. ListsRows rows.items (StepAt index.now row)) }
+/// Whether the rows of a group can step to rows of FILE: it is a data group other than FILE.
+fn may_have_files(group: &[u8]) -> bool
+    ensures { result ≡ (not (is_definition group.now) && not (bytes_eq group.now (codes "FILE"))) }
 {
-    let mut found = Vec::from_slice(alloc, index.parent_rows(row))?;
-    add_link_steps(index, row, &mut found)?;
-    add_file_steps(index, row, &mut found)?;
-    Ok(each_once(found))
+    !is_definition(group) && group != b"FILE".as_slice()
 }

@@ -20,14 +20,30 @@ const ESCAPE_MARK: u8 = 1;
 /// The bytes that a text is given room for at first; most have no more.
 const ROOM: usize = 32;
 
-/// Adds a byte of a text, after an escape mark where it is a mark itself.
-fn push_marked(out: &mut Vec<u8>, byte: u8) -> Result<(), AllocError>
-    ensures { OnOk result (out.new.items ≡ out.old.items ++ byte_text byte) }
+/// Adds what is in the row at the places.
+pub(crate) fn push_entries(
+    out: &mut Vec<u8>,
+    row: &PlacedRow<'_, '_>,
+    places: &[Option<usize>],
+) -> Result<(), AllocError>
+    ensures { OnOk result (out.new.items ≡ out.old.items ++ text_at places.now row.now) }
 {
-    if byte <= ESCAPE_MARK {
-        out.push(ESCAPE_MARK)?;
+    for place in places {
+        push_text(out, field(row, *place))?;
     }
-    out.push(byte)?;
+    Ok(())
+}
+
+/// Adds one text and its end.
+fn push_text(out: &mut Vec<u8>, text: &[u8]) -> Result<(), AllocError>
+    ensures { OnOk result (out.new.items ≡ out.old.items ++ ended_text text.now) }
+{
+    if is_plain(text) {
+        out.extend_from_slice(text)?;
+    } else {
+        push_bytes(out, text)?;
+    }
+    out.push(END_MARK)?;
     Ok(())
 }
 
@@ -48,30 +64,14 @@ fn push_bytes(out: &mut Vec<u8>, text: &[u8]) -> Result<(), AllocError>
     Ok(())
 }
 
-/// Adds one text and its end.
-fn push_text(out: &mut Vec<u8>, text: &[u8]) -> Result<(), AllocError>
-    ensures { OnOk result (out.new.items ≡ out.old.items ++ ended_text text.now) }
+/// Adds a byte of a text, after an escape mark where it is a mark itself.
+fn push_marked(out: &mut Vec<u8>, byte: u8) -> Result<(), AllocError>
+    ensures { OnOk result (out.new.items ≡ out.old.items ++ byte_text byte) }
 {
-    if is_plain(text) {
-        out.extend_from_slice(text)?;
-    } else {
-        push_bytes(out, text)?;
+    if byte <= ESCAPE_MARK {
+        out.push(ESCAPE_MARK)?;
     }
-    out.push(END_MARK)?;
-    Ok(())
-}
-
-/// Adds what is in the row at the places.
-pub(crate) fn push_entries(
-    out: &mut Vec<u8>,
-    row: &PlacedRow<'_, '_>,
-    places: &[Option<usize>],
-) -> Result<(), AllocError>
-    ensures { OnOk result (out.new.items ≡ out.old.items ++ text_at places.now row.now) }
-{
-    for place in places {
-        push_text(out, field(row, *place))?;
-    }
+    out.push(byte)?;
     Ok(())
 }
 

@@ -15,22 +15,61 @@ use ags_text::{is_group_name, is_heading_name};
 use std::alloc::{AllocError, Global};
 use std::collections::BTreeMap;
 
-/// Notes a name that was met before. From now on it was.
-fn note_repeat<'g>(
-    line: u32,
-    code: Code,
-    name: &'g [u8],
+/// Nothing, or the findings of the third phase: each group.
+pub(crate) fn check_groups(alloc: Global, groups: &[Group]) -> Result<(), RowsError>
+    ensures none { OnOk result (AreExactly (StandsInGroups groups.now) []) }
+    ensures findings { IfFindings result (AreExactly (StandsInGroups groups.now)) }
+{
+    let mut findings = NotedFindings::new(alloc);
+    note_groups(alloc, groups, &mut findings)?;
+    none_noted(findings)
+}
+
+/// Notes the findings of the groups.
+fn note_groups(
+    alloc: Global,
+    groups: &[Group],
+    findings: &mut NotedFindings,
+) -> Result<(), AllocError>
+    ensures { OnOk result (Adds (StandsInGroups groups.now) findings.old findings.new) }
+{
+    let mut met = BTreeMap::new(alloc);
+    for group in groups {
+        note_group(alloc, group, &mut met, findings)?;
+    }
+    Ok(())
+}
+
+/// Notes the findings of a group.
+fn note_group<'g>(
+    alloc: Global,
+    group: &'g Group,
     met: &mut BTreeMap<&'g [u8], ()>,
     findings: &mut NotedFindings,
 ) -> Result<(), AllocError>
-    ensures noted { OnOk result (Adds (Notes line code name.now (IsMet met.old name.now)) findings.old findings.new) }
-    ensures met { OnOk result (MeetsAlso met.old met.new name.now) }
+    ensures noted { OnOk result (Adds (OneOf (group_rules_after met.old group.now)) findings.old findings.new) }
+    ensures met { OnOk result (MeetsAlso met.old met.new group.now.name) }
 {
-    let before = met.insert(name, ())?;
-    if before.is_some() {
-        findings.note(line, code, name)?;
+    note_shape(group, findings)?;
+    note_name(group.line, group.name.as_slice(), met, findings)?;
+    note_headings(alloc, group, findings)
+}
+
+/// Notes a group without DATA rows, and rows with a wrong number of items (Rules 2 and 4).
+fn note_shape(group: &Group, findings: &mut NotedFindings) -> Result<(), AllocError>
+    ensures { OnOk result (Adds (OneOf (shape_rules group.now)) findings.old findings.new) }
+{
+    let width = group.headings.len();
+    let name = group.name.as_slice();
+    if group.rows.is_empty() {
+        findings.note(group.line, Code::Rule2, name)?;
     }
-    Ok(())
+    if group.headings.is_empty() {
+        findings.note(group.heading_line, Code::Rule4, name)?;
+    }
+    note_width(group.unit_line, group.units.len(), width, name, findings)?;
+    note_width(group.type_line, group.types.len(), width, name, findings)?;
+    note_widths(group.rows.as_slice(), width, name, findings)
 }
 
 /// Notes a row with another number of items than the HEADING row (Rule 4).
@@ -64,23 +103,6 @@ fn note_widths(
     Ok(())
 }
 
-/// Notes a group without DATA rows, and rows with a wrong number of items (Rules 2 and 4).
-fn note_shape(group: &Group, findings: &mut NotedFindings) -> Result<(), AllocError>
-    ensures { OnOk result (Adds (OneOf (shape_rules group.now)) findings.old findings.new) }
-{
-    let width = group.headings.len();
-    let name = group.name.as_slice();
-    if group.rows.is_empty() {
-        findings.note(group.line, Code::Rule2, name)?;
-    }
-    if group.headings.is_empty() {
-        findings.note(group.heading_line, Code::Rule4, name)?;
-    }
-    note_width(group.unit_line, group.units.len(), width, name, findings)?;
-    note_width(group.type_line, group.types.len(), width, name, findings)?;
-    note_widths(group.rows.as_slice(), width, name, findings)
-}
-
 /// Notes a name that no group may have, and one that an earlier group has (Rule 19, P1).
 fn note_name<'g>(
     line: u32,
@@ -97,21 +119,22 @@ fn note_name<'g>(
     note_repeat(line, Code::P1, name, met, findings)
 }
 
-/// Notes a name that no heading may have, and one that an earlier heading of its row has (Rule 19a, P2).
-fn note_heading<'g>(
+/// Notes a name that was met before. From now on it was.
+fn note_repeat<'g>(
     line: u32,
-    heading: &'g [u8],
+    code: Code,
+    name: &'g [u8],
     met: &mut BTreeMap<&'g [u8], ()>,
     findings: &mut NotedFindings,
 ) -> Result<(), AllocError>
-    ensures noted { OnOk result (Adds (OneOf (heading_rules_after met.old line heading.now))
-        findings.old findings.new) }
-    ensures met { OnOk result (MeetsAlso met.old met.new heading.now) }
+    ensures noted { OnOk result (Adds (Notes line code name.now (IsMet met.old name.now)) findings.old findings.new) }
+    ensures met { OnOk result (MeetsAlso met.old met.new name.now) }
 {
-    if !is_heading_name(heading) {
-        findings.note(line, Code::Rule19a, heading)?;
+    let before = met.insert(name, ())?;
+    if before.is_some() {
+        findings.note(line, code, name)?;
     }
-    note_repeat(line, Code::P2, heading, met, findings)
+    Ok(())
 }
 
 /// Notes the findings of the headings of a group (Rule 19a, P2).
@@ -129,42 +152,19 @@ fn note_headings(
     Ok(())
 }
 
-/// Notes the findings of a group.
-fn note_group<'g>(
-    alloc: Global,
-    group: &'g Group,
+/// Notes a name that no heading may have, and one that an earlier heading of its row has (Rule 19a, P2).
+fn note_heading<'g>(
+    line: u32,
+    heading: &'g [u8],
     met: &mut BTreeMap<&'g [u8], ()>,
     findings: &mut NotedFindings,
 ) -> Result<(), AllocError>
-    ensures noted { OnOk result (Adds (OneOf (group_rules_after met.old group.now)) findings.old findings.new) }
-    ensures met { OnOk result (MeetsAlso met.old met.new group.now.name) }
+    ensures noted { OnOk result (Adds (OneOf (heading_rules_after met.old line heading.now))
+        findings.old findings.new) }
+    ensures met { OnOk result (MeetsAlso met.old met.new heading.now) }
 {
-    note_shape(group, findings)?;
-    note_name(group.line, group.name.as_slice(), met, findings)?;
-    note_headings(alloc, group, findings)
-}
-
-/// Notes the findings of the groups.
-fn note_groups(
-    alloc: Global,
-    groups: &[Group],
-    findings: &mut NotedFindings,
-) -> Result<(), AllocError>
-    ensures { OnOk result (Adds (StandsInGroups groups.now) findings.old findings.new) }
-{
-    let mut met = BTreeMap::new(alloc);
-    for group in groups {
-        note_group(alloc, group, &mut met, findings)?;
+    if !is_heading_name(heading) {
+        findings.note(line, Code::Rule19a, heading)?;
     }
-    Ok(())
-}
-
-/// Nothing, or the findings of the third phase: each group.
-pub(crate) fn check_groups(alloc: Global, groups: &[Group]) -> Result<(), RowsError>
-    ensures none { OnOk result (AreExactly (StandsInGroups groups.now) []) }
-    ensures findings { IfFindings result (AreExactly (StandsInGroups groups.now)) }
-{
-    let mut findings = NotedFindings::new(alloc);
-    note_groups(alloc, groups, &mut findings)?;
-    none_noted(findings)
+    note_repeat(line, Code::P2, heading, met, findings)
 }

@@ -70,151 +70,6 @@ impl PlainKeep {
     }
 }
 
-/// A deposit of copies.
-fn kept_of(
-    alloc: Global,
-    firm: &Name,
-    project: &Name,
-    embargo: Day,
-    bytes: &[u8],
-    withdrawn: bool,
-) -> Result<Kept, AllocError>
-    ensures { IfOk result (λ kept. kept ≡ record {
-      firm = firm.now;
-      project = project.now;
-      embargo = embargo;
-      bytes = bytes.now;
-      withdrawn = withdrawn;
-    }) }
-{
-    Ok(Kept {
-        firm: firm.clone()?,
-        project: project.clone()?,
-        embargo,
-        bytes: copy(alloc, bytes)?,
-        withdrawn,
-    })
-}
-
-/// The head of a deposit, copied.
-fn copied_head(kept: &Kept) -> Result<KeptHead, AllocError>
-    ensures { IfOk result (IsHeadOf (deposit_of kept.now)) }
-{
-    Ok(KeptHead {
-        firm: kept.firm.clone()?,
-        project: kept.project.clone()?,
-        embargo: kept.embargo,
-        withdrawn: kept.withdrawn,
-    })
-}
-
-/// A copy of the graph. It is refused only when out of memory.
-pub fn copy_graph(alloc: Global, graph: &Graph) -> Result<Graph, AllocError>
-    ensures { IfOk result (λ copied. copied ≡ graph.now) }
-{
-    let steps = Vec::from_slice(alloc, graph.steps())?;
-    match Graph::new(graph.rows(), steps) {
-        Some(copied) => Ok(copied),
-        None => unreachable!(),
-    }
-}
-
-/// The number of the first equal deposit, from 1.
-fn find_in(kept: &[Kept], firm: &Name, project: &Name, bytes: &[u8]) -> Option<u32>
-    requires { length kept.now ≤ 999999 }
-    ensures { result ≡ number_of firm.now project.now bytes.now (sents (map deposit_of kept.now)) }
-{
-    let mut number: u32 = 0;
-    for one in kept {
-        number += 1;
-        if is_equal(one, firm, project, bytes) {
-            return Some(number);
-        }
-    }
-    None
-}
-
-/// The numbers of a project's deposits, rising.
-fn numbers_in(alloc: Global, kept: &[Kept], project: &Name) -> Result<Vec<u32>, AllocError>
-    requires { length kept.now ≤ 999999 }
-    ensures { IfOk result (λ ns. ns.items ≡ numbers_from 1 project.now (sents (map deposit_of kept.now))) }
-{
-    let mut numbers = Vec::new(alloc);
-    let mut number: u32 = 0;
-    for one in kept {
-        number += 1;
-        if one.project == *project {
-            numbers.push(number)?;
-        }
-    }
-    Ok(numbers)
-}
-
-/// The file of a deposit, checked anew: it has no finding, as when it was taken.
-fn recheck<'k>(
-    alloc: Global,
-    dictionary: &Dictionary,
-    kept: &'k Kept,
-) -> Result<Checked<'k>, AllocError>
-    requires { IsFit dictionary.now (sent_of kept.now) }
-    ensures { IfOk result (IsFileOf dictionary.now (sent_of kept.now)) }
-{
-    match check(alloc, dictionary, kept.bytes.as_slice()) {
-        Ok(checked) => Ok(checked),
-        Err(CheckError::Findings(_)) => unreachable!(),
-        Err(CheckError::NoMemory) => Err(AllocError),
-    }
-}
-
-/// The rows of a deposit's file.
-fn checked_rows(
-    alloc: Global,
-    dictionary: &Dictionary,
-    kept: &Kept,
-) -> Result<Vec<KeptRow>, AllocError>
-    requires { IsFit dictionary.now (sent_of kept.now) }
-    ensures { IfOk result (λ rows. OfFile dictionary.now (sent_of kept.now) (HasKeptRows rows)) }
-{
-    let checked = recheck(alloc, dictionary, kept)?;
-    kept_rows(alloc, checked.scan().groups())
-}
-
-/// The steps between the DATA rows of a deposit's file.
-fn checked_steps(alloc: Global, dictionary: &Dictionary, kept: &Kept) -> Result<Graph, AllocError>
-    requires { IsFit dictionary.now (sent_of kept.now) }
-    ensures { IfOk result (λ graph. OfFile dictionary.now (sent_of kept.now) (HasGraph graph)) }
-{
-    let checked = recheck(alloc, dictionary, kept)?;
-    copy_graph(alloc, checked.graph())
-}
-
-/// The row of PROJ of a deposit's file.
-fn checked_project(
-    alloc: Global,
-    dictionary: &Dictionary,
-    kept: &Kept,
-) -> Result<Option<ProjectRow>, AllocError>
-    requires { IsFit dictionary.now (sent_of kept.now) }
-    ensures { IfOk result (λ found. OfFile dictionary.now (sent_of kept.now) (HasProjectRow found)) }
-{
-    let rows = checked_rows(alloc, dictionary, kept)?;
-    project_in(alloc, &rows)
-}
-
-/// The rows to which a row of a deposit's file has a step.
-fn checked_targets(
-    alloc: Global,
-    dictionary: &Dictionary,
-    kept: &Kept,
-    row: u32,
-) -> Result<Vec<u32>, AllocError>
-    requires { IsFit dictionary.now (sent_of kept.now) }
-    ensures { IfOk result (λ targets. OfFile dictionary.now (sent_of kept.now) (HasTargets row targets)) }
-{
-    let checked = recheck(alloc, dictionary, kept)?;
-    targets_in(alloc, checked.graph().steps(), row)
-}
-
 impl Keep for PlainKeep {
     ghost use Rattle.reg_store.specs.Plain.{deposits_of, dictionary_of, limit_of};
 
@@ -336,4 +191,149 @@ impl Keep for PlainKeep {
     ghost fit = { λ k _ _. fit_of k.dictionary (sents (deposits_of k)) k.fit };
 
     ghost few = { λ k _ _. few_of k.kept.items k.limit k.within k.few };
+}
+
+/// The number of the first equal deposit, from 1.
+fn find_in(kept: &[Kept], firm: &Name, project: &Name, bytes: &[u8]) -> Option<u32>
+    requires { length kept.now ≤ 999999 }
+    ensures { result ≡ number_of firm.now project.now bytes.now (sents (map deposit_of kept.now)) }
+{
+    let mut number: u32 = 0;
+    for one in kept {
+        number += 1;
+        if is_equal(one, firm, project, bytes) {
+            return Some(number);
+        }
+    }
+    None
+}
+
+/// A deposit of copies.
+fn kept_of(
+    alloc: Global,
+    firm: &Name,
+    project: &Name,
+    embargo: Day,
+    bytes: &[u8],
+    withdrawn: bool,
+) -> Result<Kept, AllocError>
+    ensures { IfOk result (λ kept. kept ≡ record {
+      firm = firm.now;
+      project = project.now;
+      embargo = embargo;
+      bytes = bytes.now;
+      withdrawn = withdrawn;
+    }) }
+{
+    Ok(Kept {
+        firm: firm.clone()?,
+        project: project.clone()?,
+        embargo,
+        bytes: copy(alloc, bytes)?,
+        withdrawn,
+    })
+}
+
+/// The head of a deposit, copied.
+fn copied_head(kept: &Kept) -> Result<KeptHead, AllocError>
+    ensures { IfOk result (IsHeadOf (deposit_of kept.now)) }
+{
+    Ok(KeptHead {
+        firm: kept.firm.clone()?,
+        project: kept.project.clone()?,
+        embargo: kept.embargo,
+        withdrawn: kept.withdrawn,
+    })
+}
+
+/// The rows of a deposit's file.
+fn checked_rows(
+    alloc: Global,
+    dictionary: &Dictionary,
+    kept: &Kept,
+) -> Result<Vec<KeptRow>, AllocError>
+    requires { IsFit dictionary.now (sent_of kept.now) }
+    ensures { IfOk result (λ rows. OfFile dictionary.now (sent_of kept.now) (HasKeptRows rows)) }
+{
+    let checked = recheck(alloc, dictionary, kept)?;
+    kept_rows(alloc, checked.scan().groups())
+}
+
+/// The file of a deposit, checked anew: it has no finding, as when it was taken.
+fn recheck<'k>(
+    alloc: Global,
+    dictionary: &Dictionary,
+    kept: &'k Kept,
+) -> Result<Checked<'k>, AllocError>
+    requires { IsFit dictionary.now (sent_of kept.now) }
+    ensures { IfOk result (IsFileOf dictionary.now (sent_of kept.now)) }
+{
+    match check(alloc, dictionary, kept.bytes.as_slice()) {
+        Ok(checked) => Ok(checked),
+        Err(CheckError::Findings(_)) => unreachable!(),
+        Err(CheckError::NoMemory) => Err(AllocError),
+    }
+}
+
+/// The steps between the DATA rows of a deposit's file.
+fn checked_steps(alloc: Global, dictionary: &Dictionary, kept: &Kept) -> Result<Graph, AllocError>
+    requires { IsFit dictionary.now (sent_of kept.now) }
+    ensures { IfOk result (λ graph. OfFile dictionary.now (sent_of kept.now) (HasGraph graph)) }
+{
+    let checked = recheck(alloc, dictionary, kept)?;
+    copy_graph(alloc, checked.graph())
+}
+
+/// The row of PROJ of a deposit's file.
+fn checked_project(
+    alloc: Global,
+    dictionary: &Dictionary,
+    kept: &Kept,
+) -> Result<Option<ProjectRow>, AllocError>
+    requires { IsFit dictionary.now (sent_of kept.now) }
+    ensures { IfOk result (λ found. OfFile dictionary.now (sent_of kept.now) (HasProjectRow found)) }
+{
+    let rows = checked_rows(alloc, dictionary, kept)?;
+    project_in(alloc, &rows)
+}
+
+/// The rows to which a row of a deposit's file has a step.
+fn checked_targets(
+    alloc: Global,
+    dictionary: &Dictionary,
+    kept: &Kept,
+    row: u32,
+) -> Result<Vec<u32>, AllocError>
+    requires { IsFit dictionary.now (sent_of kept.now) }
+    ensures { IfOk result (λ targets. OfFile dictionary.now (sent_of kept.now) (HasTargets row targets)) }
+{
+    let checked = recheck(alloc, dictionary, kept)?;
+    targets_in(alloc, checked.graph().steps(), row)
+}
+
+/// The numbers of a project's deposits, rising.
+fn numbers_in(alloc: Global, kept: &[Kept], project: &Name) -> Result<Vec<u32>, AllocError>
+    requires { length kept.now ≤ 999999 }
+    ensures { IfOk result (λ ns. ns.items ≡ numbers_from 1 project.now (sents (map deposit_of kept.now))) }
+{
+    let mut numbers = Vec::new(alloc);
+    let mut number: u32 = 0;
+    for one in kept {
+        number += 1;
+        if one.project == *project {
+            numbers.push(number)?;
+        }
+    }
+    Ok(numbers)
+}
+
+/// A copy of the graph. It is refused only when out of memory.
+pub fn copy_graph(alloc: Global, graph: &Graph) -> Result<Graph, AllocError>
+    ensures { IfOk result (λ copied. copied ≡ graph.now) }
+{
+    let steps = Vec::from_slice(alloc, graph.steps())?;
+    match Graph::new(graph.rows(), steps) {
+        Some(copied) => Ok(copied),
+        None => unreachable!(),
+    }
 }

@@ -15,6 +15,35 @@ use ags_cells::laws::fits_its_type_code;
 use ags_rows::{Code, NotedFindings, Row, cell_at};
 use std::alloc::AllocError;
 
+/// Notes what the entries of a row break.
+pub(crate) fn note_entries<'a>(
+    listed: &CodeLists<'a>,
+    outline: &Outline<'a>,
+    row: &'a Row,
+    findings: &mut NotedFindings,
+) -> Result<(), AllocError>
+    ensures { OnOk result (Adds (InEntries listed.now outline.now.group row.now) findings.old findings.new) }
+{
+    let columns = outline.columns.as_slice();
+    let cells = row.cells.as_slice();
+    for column in columns {
+        let text = cell_at(cells, column.place);
+        if is_unfit(column, text) {
+            findings.note(row.line, Code::Rule8, column.heading)?;
+        }
+        if is_unlisted_unit(column, text, listed) {
+            findings.note(row.line, Code::Rule15, column.heading)?;
+        }
+        if is_unlisted_abbreviation(column, text, listed) {
+            findings.note(row.line, Code::Rule16, column.heading)?;
+        }
+        if is_unlisted_type(column, text, listed) {
+            findings.note(row.line, Code::Rule17, column.heading)?;
+        }
+    }
+    Ok(())
+}
+
 /// Rule 8: whether the text does not fit the type and the unit.
 fn is_unfit(column: &Column, text: &[u8]) -> bool
     requires { IsTyped column.now }
@@ -45,35 +74,6 @@ fn is_unlisted_type(column: &Column, text: &[u8], listed: &CodeLists) -> bool
     ensures { IsTrue result ↔ (column.now.code.now ≡ codes "PT") × IsUnlistedType listed.now text.now }
 {
     is_of_type(column, b"PT") && listed.is_unlisted_type(text)
-}
-
-/// Notes what the entries of a row break.
-pub(crate) fn note_entries<'a>(
-    listed: &CodeLists<'a>,
-    outline: &Outline<'a>,
-    row: &'a Row,
-    findings: &mut NotedFindings,
-) -> Result<(), AllocError>
-    ensures { OnOk result (Adds (InEntries listed.now outline.now.group row.now) findings.old findings.new) }
-{
-    let columns = outline.columns.as_slice();
-    let cells = row.cells.as_slice();
-    for column in columns {
-        let text = cell_at(cells, column.place);
-        if is_unfit(column, text) {
-            findings.note(row.line, Code::Rule8, column.heading)?;
-        }
-        if is_unlisted_unit(column, text, listed) {
-            findings.note(row.line, Code::Rule15, column.heading)?;
-        }
-        if is_unlisted_abbreviation(column, text, listed) {
-            findings.note(row.line, Code::Rule16, column.heading)?;
-        }
-        if is_unlisted_type(column, text, listed) {
-            findings.note(row.line, Code::Rule17, column.heading)?;
-        }
-    }
-    Ok(())
 }
 
 /// Notes the units and types over the headings that are not listed (Rules 15 and 17).

@@ -12,25 +12,6 @@ use ags_links::Index;
 use ags_rows::{Code, NotedFindings, Row, cell_at};
 use std::alloc::AllocError;
 
-/// Rule 11c, in a data group: whether the text is a record link of which some part names no row.
-fn is_broken_link(
-    column: &Column,
-    text: &[u8],
-    index: &Index,
-    number: u32,
-) -> Result<bool, AllocError>
-    requires { number < length (rows_in index.now) }
-    ensures { IfOk result (SaysOfRow index.now number (HasBrokenLink index.now column.now text.now)) }
-{
-    if !is_of_type(column, b"RL") {
-        return Ok(false);
-    }
-    if text.is_empty() {
-        return Ok(false);
-    }
-    index.has_broken_part(number, column.heading)
-}
-
 /// Rule 11c: notes the record links of a row of a data group of which some part names no row.
 pub(crate) fn note_links(
     index: &Index,
@@ -55,4 +36,23 @@ pub(crate) fn note_links(
         }
     }
     Ok(())
+}
+
+/// Rule 11c, in a data group: whether the text is a record link of which some part names no row.
+fn is_broken_link(
+    column: &Column,
+    text: &[u8],
+    index: &Index,
+    number: u32,
+) -> Result<bool, AllocError>
+    requires { number < length (rows_in index.now) }
+    ensures { IfOk result (SaysOfRow index.now number (HasBrokenLink index.now column.now text.now)) }
+{
+    if !is_of_type(column, b"RL") {
+        return Ok(false);
+    }
+    if text.is_empty() {
+        return Ok(false);
+    }
+    index.has_broken_part(number, column.heading)
 }

@@ -14,30 +14,6 @@ use reg_policy::{Caller, Day, Decision, Name, Policy, Verb};
 use reg_store::Keep;
 use std::alloc::Global;
 
-/// The answer to a body that its check refuses.
-pub(super) fn refusal_of(error: CheckError) -> Answer
-    ensures findings { (found : List Finding) → error ≡ CheckError.Findings found → result ≡ Answer.Findings found }
-    ensures memory { error ≡ CheckError.NoMemory → result ≡ Answer.NoMemory }
-{
-    match error {
-        CheckError::Findings(found) => Answer::Findings(found),
-        CheckError::NoMemory => Answer::NoMemory,
-    }
-}
-
-/// What the check of a body is answered: Clean where it is not too large and has no finding.
-fn check_body(alloc: Global, dictionary: &Dictionary, bytes: &[u8]) -> Answer
-    ensures { IsRefusal dictionary.now bytes.now result ⊎ IsCleanCheck dictionary.now bytes.now result }
-{
-    if bytes.len() > LIMIT {
-        return Answer::TooLarge;
-    }
-    match check(alloc, dictionary, bytes) {
-        Err(error) => refusal_of(error),
-        Ok(_checked) => Answer::Clean,
-    }
-}
-
 /// What a check is answered.
 #[tactic(none)]
 pub(super) fn serve_check<K: Keep>(
@@ -56,5 +32,29 @@ pub(super) fn serve_check<K: Keep>(
     match decide_request(policy, caller, project, Verb::Check, day) {
         Decision::Deny(rule) => Answer::Denied(rule),
         Decision::Permit(_rule) => check_body(alloc, keep.dictionary(), bytes),
+    }
+}
+
+/// What the check of a body is answered: Clean where it is not too large and has no finding.
+fn check_body(alloc: Global, dictionary: &Dictionary, bytes: &[u8]) -> Answer
+    ensures { IsRefusal dictionary.now bytes.now result ⊎ IsCleanCheck dictionary.now bytes.now result }
+{
+    if bytes.len() > LIMIT {
+        return Answer::TooLarge;
+    }
+    match check(alloc, dictionary, bytes) {
+        Err(error) => refusal_of(error),
+        Ok(_checked) => Answer::Clean,
+    }
+}
+
+/// The answer to a body that its check refuses.
+pub(super) fn refusal_of(error: CheckError) -> Answer
+    ensures findings { (found : List Finding) → error ≡ CheckError.Findings found → result ≡ Answer.Findings found }
+    ensures memory { error ≡ CheckError.NoMemory → result ≡ Answer.NoMemory }
+{
+    match error {
+        CheckError::Findings(found) => Answer::Findings(found),
+        CheckError::NoMemory => Answer::NoMemory,
     }
 }

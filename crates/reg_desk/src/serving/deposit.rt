@@ -16,38 +16,48 @@ use reg_policy::{Caller, Day, Decision, Name, Policy, Verb};
 use reg_store::{Keep, KeepError};
 use std::alloc::Global;
 
-/// The number and the embargo of the deposit that is held already, withdrawn or not: the first that is equal in firm,
-/// project and bytes.
-#[tactic(auto, using(crate::proofs::Firsts::none_held))]
-fn held_already<K: Keep>(
+/// What a deposit is answered.
+#[tactic(none)]
+pub(super) fn serve_deposit<K: Keep>(
+    alloc: Global,
     keep: &mut K,
-    firm: &Name,
+    policy: &Policy,
+    caller: &Caller,
     project: &Name,
+    embargo: Day,
     bytes: &[u8],
-) -> Result<Option<(u32, Day)>, KeepError>
+    day: Day,
+) -> Answer
     requires { K.has_failed keep.old ≡ false }
-    ensures reads { OnlyReads K.Keep keep.old keep.new (fails result) }
-    ensures held { K.is_sound keep.new → IfOk result (λ held.
-        held ≡ first_equal 1 firm.now project.now bytes.now (sents (K.deposits keep.old))) }
-    ensures refused { result ≢ Err KeepError.Full }
+    ensures { Serves K.Keep policy.now
+        (asks_deposit caller.now project.now embargo bytes.now day) keep.old keep.new result }
 {
-    match keep.find(firm, project, bytes)? {
-        None => Ok(None),
-        Some(number) => {
-            let head = keep.head(number)?;
-            Ok(Some((number, head.embargo)))
-        }
+    match decide_request(policy, caller, project, Verb::Deposit, day) {
+        Decision::Deny(rule) => Answer::Denied(rule),
+        Decision::Permit(_rule) => serve_permitted(alloc, keep, caller, project, embargo, bytes),
     }
 }
 
-/// The receipt of a deposit: one that was held already keeps its embargo, whatever is asked.
-fn receipt(number: u32, held: Option<Day>, asked: Day) -> Answer
-    ensures held { IfSome held (λ until. result ≡ Answer.Receipt number until) }
-    ensures new { held ≡ None → result ≡ Answer.Receipt number asked }
+/// What a deposit is answered that the policy permits.
+#[tactic(none)]
+fn serve_permitted<K: Keep>(
+    alloc: Global,
+    keep: &mut K,
+    caller: &Caller,
+    project: &Name,
+    embargo: Day,
+    bytes: &[u8],
+) -> Answer
+    requires { K.has_failed keep.old ≡ false }
+    ensures { ServesPermittedDeposit K.Keep
+        caller.now project.now embargo bytes.now keep.old keep.new result }
 {
-    Answer::Receipt {
-        number,
-        embargo: held.unwrap_or(asked),
+    if bytes.len() > LIMIT {
+        return Answer::TooLarge;
+    }
+    match check(alloc, keep.dictionary(), bytes) {
+        Err(error) => refusal_of(error),
+        Ok(checked) => serve_checked(keep, caller, project, embargo, &checked),
     }
 }
 
@@ -81,47 +91,37 @@ fn serve_checked<K: Keep>(
     }
 }
 
-/// What a deposit is answered that the policy permits.
-#[tactic(none)]
-fn serve_permitted<K: Keep>(
-    alloc: Global,
+/// The number and the embargo of the deposit that is held already, withdrawn or not: the first that is equal in firm,
+/// project and bytes.
+#[tactic(auto, using(crate::proofs::Firsts::none_held))]
+fn held_already<K: Keep>(
     keep: &mut K,
-    caller: &Caller,
+    firm: &Name,
     project: &Name,
-    embargo: Day,
     bytes: &[u8],
-) -> Answer
+) -> Result<Option<(u32, Day)>, KeepError>
     requires { K.has_failed keep.old ≡ false }
-    ensures { ServesPermittedDeposit K.Keep
-        caller.now project.now embargo bytes.now keep.old keep.new result }
+    ensures reads { OnlyReads K.Keep keep.old keep.new (fails result) }
+    ensures held { K.is_sound keep.new → IfOk result (λ held.
+        held ≡ first_equal 1 firm.now project.now bytes.now (sents (K.deposits keep.old))) }
+    ensures refused { result ≢ Err KeepError.Full }
 {
-    if bytes.len() > LIMIT {
-        return Answer::TooLarge;
-    }
-    match check(alloc, keep.dictionary(), bytes) {
-        Err(error) => refusal_of(error),
-        Ok(checked) => serve_checked(keep, caller, project, embargo, &checked),
+    match keep.find(firm, project, bytes)? {
+        None => Ok(None),
+        Some(number) => {
+            let head = keep.head(number)?;
+            Ok(Some((number, head.embargo)))
+        }
     }
 }
 
-/// What a deposit is answered.
-#[tactic(none)]
-pub(super) fn serve_deposit<K: Keep>(
-    alloc: Global,
-    keep: &mut K,
-    policy: &Policy,
-    caller: &Caller,
-    project: &Name,
-    embargo: Day,
-    bytes: &[u8],
-    day: Day,
-) -> Answer
-    requires { K.has_failed keep.old ≡ false }
-    ensures { Serves K.Keep policy.now
-        (asks_deposit caller.now project.now embargo bytes.now day) keep.old keep.new result }
+/// The receipt of a deposit: one that was held already keeps its embargo, whatever is asked.
+fn receipt(number: u32, held: Option<Day>, asked: Day) -> Answer
+    ensures held { IfSome held (λ until. result ≡ Answer.Receipt number until) }
+    ensures new { held ≡ None → result ≡ Answer.Receipt number asked }
 {
-    match decide_request(policy, caller, project, Verb::Deposit, day) {
-        Decision::Deny(rule) => Answer::Denied(rule),
-        Decision::Permit(_rule) => serve_permitted(alloc, keep, caller, project, embargo, bytes),
+    Answer::Receipt {
+        number,
+        embargo: held.unwrap_or(asked),
     }
 }

@@ -17,41 +17,32 @@ use reg_policy::{Caller, Day, Decision, Name, Policy, Verb};
 use reg_store::{Keep, KeepError, KeptRow};
 use std::alloc::Global;
 
-/// The rows and the steps of a kept deposit.
-pub(super) fn read_view<K: Keep>(
-    keep: &mut K,
-    number: u32,
-) -> Result<(Vec<KeptRow>, Graph), KeepError>
-    requires working { K.has_failed keep.old ≡ false }
-    requires number { K.is_sound keep.old → (0 < number) × (number ≤ length (K.deposits keep.old)) }
-    ensures reads { OnlyReads K.Keep keep.old keep.new (fails result) }
-    ensures seen { K.is_sound keep.new
-        → IfOk result (λ seen. OfHeld K.Keep keep.old number (λ file. IsViewOf seen.0.items seen.1 file)) }
-    ensures refused { result ≢ Err KeepError.Full }
-{
-    let rows = keep.rows(number)?;
-    let graph = keep.steps(number)?;
-    Ok((rows, graph))
-}
-
-/// The text of the deposit's extract, if its row of PROJ is shown.
-fn draw_held<K: Keep>(
+/// What an extract is answered.
+#[tactic(none)]
+pub(super) fn serve_extract<K: Keep>(
     alloc: Global,
     keep: &mut K,
-    look: &Look,
+    policy: &Policy,
+    caller: &Caller,
+    project: &Name,
     number: u32,
     groups: &[&[u8]],
-) -> Result<Option<Vec<u8>>, KeepError>
-    requires working { K.has_failed keep.old ≡ false }
-    requires number { K.is_sound keep.old → (0 < number) × (number ≤ length (K.deposits keep.old)) }
-    ensures reads { OnlyReads K.Keep keep.old keep.new (fails result) }
-    ensures drawn { K.is_sound keep.new → IfOk result (λ text. OfHeld K.Keep keep.old number (λ file.
-        DrawsFile look.now (names_in groups.now) text file)) }
-    ensures rows { IfOk result (λ text. IfSome text (λ t. IsOfRows t.items)) }
-    ensures refused { result ≢ Err KeepError.Full }
+    day: Day,
+) -> Answer
+    requires { K.has_failed keep.old ≡ false }
+    ensures serves { Serves K.Keep policy.now
+        (asks_extract caller.now project.now number (names_in groups.now) day) keep.old keep.new result }
+    ensures rows { IsAnswerOfRows result }
 {
-    let (rows, graph) = read_view(keep, number)?;
-    extract(alloc, look, groups, &rows, &graph)
+    match decide_request(policy, caller, project, Verb::Extract, day) {
+        Decision::Deny(rule) => return Answer::Denied(rule),
+        Decision::Permit(_rule) => {}
+    }
+    match draw(alloc, keep, policy, caller, project, number, groups, day) {
+        Err(error) => refused(error),
+        Ok(None) => Answer::Unknown,
+        Ok(Some(text)) => Answer::Text(Sequence::from_vec(text)),
+    }
 }
 
 /// The text of the extract of a deposit of the project, if it is not withdrawn and its row of PROJ is shown.
@@ -84,30 +75,39 @@ fn draw<K: Keep>(
     draw_held(alloc, keep, &look, number, groups)
 }
 
-/// What an extract is answered.
-#[tactic(none)]
-pub(super) fn serve_extract<K: Keep>(
+/// The text of the deposit's extract, if its row of PROJ is shown.
+fn draw_held<K: Keep>(
     alloc: Global,
     keep: &mut K,
-    policy: &Policy,
-    caller: &Caller,
-    project: &Name,
+    look: &Look,
     number: u32,
     groups: &[&[u8]],
-    day: Day,
-) -> Answer
-    requires { K.has_failed keep.old ≡ false }
-    ensures serves { Serves K.Keep policy.now
-        (asks_extract caller.now project.now number (names_in groups.now) day) keep.old keep.new result }
-    ensures rows { IsAnswerOfRows result }
+) -> Result<Option<Vec<u8>>, KeepError>
+    requires working { K.has_failed keep.old ≡ false }
+    requires number { K.is_sound keep.old → (0 < number) × (number ≤ length (K.deposits keep.old)) }
+    ensures reads { OnlyReads K.Keep keep.old keep.new (fails result) }
+    ensures drawn { K.is_sound keep.new → IfOk result (λ text. OfHeld K.Keep keep.old number (λ file.
+        DrawsFile look.now (names_in groups.now) text file)) }
+    ensures rows { IfOk result (λ text. IfSome text (λ t. IsOfRows t.items)) }
+    ensures refused { result ≢ Err KeepError.Full }
 {
-    match decide_request(policy, caller, project, Verb::Extract, day) {
-        Decision::Deny(rule) => return Answer::Denied(rule),
-        Decision::Permit(_rule) => {}
-    }
-    match draw(alloc, keep, policy, caller, project, number, groups, day) {
-        Err(error) => refused(error),
-        Ok(None) => Answer::Unknown,
-        Ok(Some(text)) => Answer::Text(Sequence::from_vec(text)),
-    }
+    let (rows, graph) = read_view(keep, number)?;
+    extract(alloc, look, groups, &rows, &graph)
+}
+
+/// The rows and the steps of a kept deposit.
+pub(super) fn read_view<K: Keep>(
+    keep: &mut K,
+    number: u32,
+) -> Result<(Vec<KeptRow>, Graph), KeepError>
+    requires working { K.has_failed keep.old ≡ false }
+    requires number { K.is_sound keep.old → (0 < number) × (number ≤ length (K.deposits keep.old)) }
+    ensures reads { OnlyReads K.Keep keep.old keep.new (fails result) }
+    ensures seen { K.is_sound keep.new
+        → IfOk result (λ seen. OfHeld K.Keep keep.old number (λ file. IsViewOf seen.0.items seen.1 file)) }
+    ensures refused { result ≢ Err KeepError.Full }
+{
+    let rows = keep.rows(number)?;
+    let graph = keep.steps(number)?;
+    Ok((rows, graph))
 }

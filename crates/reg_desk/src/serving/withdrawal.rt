@@ -11,30 +11,6 @@ use crate::serving::{are_equal_names, decide_request, refused};
 use reg_policy::{Caller, Day, Decision, Name, Policy, Verb};
 use reg_store::{Keep, KeepError};
 
-/// Whether the deposit is withdrawn, if it is the project's and the caller's firm sent it.
-fn own_mark<K: Keep>(
-    keep: &mut K,
-    caller: &Caller,
-    project: &Name,
-    number: u32,
-) -> Result<Option<bool>, KeepError>
-    requires { K.has_failed keep.old ≡ false }
-    ensures reads { OnlyReads K.Keep keep.old keep.new (fails result) }
-    ensures own { K.is_sound keep.new → IfOk result (λ mark.
-        mark ≡ mark_of caller.now project.now (held number (K.deposits keep.old))) }
-    ensures refused { result ≢ Err KeepError.Full }
-{
-    if number == 0 || number > keep.count() {
-        return Ok(None);
-    }
-    let head = keep.head(number)?;
-    if are_equal_names(&head.project, project) && are_equal_names(&head.firm, &caller.firm) {
-        Ok(Some(head.withdrawn))
-    } else {
-        Ok(None)
-    }
-}
-
 /// What a withdrawal is answered.
 #[tactic(none)]
 pub(super) fn serve_withdraw<K: Keep>(
@@ -61,5 +37,29 @@ pub(super) fn serve_withdraw<K: Keep>(
             Err(error) => refused(error),
             Ok(()) => Answer::Withdrawn(number),
         },
+    }
+}
+
+/// Whether the deposit is withdrawn, if it is the project's and the caller's firm sent it.
+fn own_mark<K: Keep>(
+    keep: &mut K,
+    caller: &Caller,
+    project: &Name,
+    number: u32,
+) -> Result<Option<bool>, KeepError>
+    requires { K.has_failed keep.old ≡ false }
+    ensures reads { OnlyReads K.Keep keep.old keep.new (fails result) }
+    ensures own { K.is_sound keep.new → IfOk result (λ mark.
+        mark ≡ mark_of caller.now project.now (held number (K.deposits keep.old))) }
+    ensures refused { result ≢ Err KeepError.Full }
+{
+    if number == 0 || number > keep.count() {
+        return Ok(None);
+    }
+    let head = keep.head(number)?;
+    if are_equal_names(&head.project, project) && are_equal_names(&head.firm, &caller.firm) {
+        Ok(Some(head.withdrawn))
+    } else {
+        Ok(None)
     }
 }
