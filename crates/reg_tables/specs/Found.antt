@@ -1,4 +1,4 @@
--- What the queries of a register find, and what they leave.
+-- What the queries of a register find, and what they leave. No promise is made of these words.
 use Rattle.std.specs.Prelude.{◌≡◌, ℕ, Bool, true, false, List, map, filter, length, Option, None, is_some, IfSome}
 use Rattle.std.specs.Prelude.{Result, Ok, IfOk, OnOk}
 use Rattle.std.specs.declared.alloc.Global.{Global}
