@@ -86,7 +86,7 @@ fn create_store<F: Start>(
     requires short { length bytes.now ≤ READABLE }
     ensures refused { IfErr result (RefusesBytes bytes.now) }
 {
-    match SqlKeep::create_from(rt, alloc, path, bytes, start) {
+    match SqlKeep::create(rt, alloc, path, bytes, start) {
         Ok(keep) => {
             keep.close();
             Ok(())
@@ -106,7 +106,7 @@ fn open_store<'w, F: Start, P: Progress>(
     ensures adopted { IfOk result (λ k. AdoptsFiles (image_at F.Start) k.dictionary (file_state k.connection)) }
     ensures working { IfOk result (λ k. k.has_failed ≡ false) }
 {
-    match SqlKeep::open_from(rt, alloc, path, start, progress) {
+    match SqlKeep::open(rt, alloc, path, start, progress) {
         Ok(keep) => Ok(keep),
         Err((error, _connection)) => Err(adopting(error)),
     }
@@ -122,7 +122,7 @@ fn migrate_store<'w, F: Start, P: Progress>(
 ) -> Result<SqlKeep<FileStore<FileFrom<F>>>, Failure<'w>>
     ensures { IfOk result (λ k. MigratesFiles (image_at F.Start) k.dictionary (file_state k.connection)) }
 {
-    match SqlKeep::migrate_from(rt, alloc, path, start, progress) {
+    match SqlKeep::migrate(rt, alloc, path, start, progress) {
         Ok(keep) => Ok(keep),
         Err((error, _connection)) => Err(adopting(error)),
     }

@@ -15,7 +15,7 @@ use Rattle.sqlite_value.proofs.OrderLemmas.{value_cmp_total}
 use Rattle.sqlite_keyed.proofs.ListLemmas.{filter-map, filter-filter, IsPermutation-filter}
 use Rattle.reg_store.specs.Sent.{Sent}
 use Rattle.reg_tables.specs.Tables.{HasTables, format_number, schema_of}
-use Rattle.reg_tables.specs.Texts.{select_all_numbers, select_deposit, select_meta}
+use Rattle.reg_tables.proofs.Texts.{select_all_numbers, select_deposit, select_meta}
 use Rattle.reg_tables.proofs.MeaningLaws.{all_numbers, all_numbers_read, by_number, deposit_read, all_meta}
 use Rattle.reg_tables.proofs.MeaningLaws.{all_meta_read}
 use Rattle.reg_tables.specs.Rows.{columns_5, deposit_table, given_deposit, columns_3, line_table, step_table}

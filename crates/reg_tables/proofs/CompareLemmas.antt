@@ -11,7 +11,7 @@ use Rattle.std.specs.Prelude.{pos}
 use Rattle.ags_links.specs.Steps.{IsBefore}
 use Rattle.reg_store.specs.declared.keep.KeptRow.{KeptRow}
 use Rattle.reg_tables.specs.Tables.{HasTables}
-use Rattle.reg_tables.specs.Texts.{select_lines, select_steps}
+use Rattle.reg_tables.proofs.Texts.{select_lines, select_steps}
 use Rattle.reg_tables.specs.Rows.{placed_rows, step_pair}
 use Rattle.reg_tables.specs.Methods.{HoldsLines, HoldsSteps}
 use Rattle.reg_tables.proofs.ReadsLaws.{holds_lines, reads_lines}

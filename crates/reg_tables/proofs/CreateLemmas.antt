@@ -10,7 +10,7 @@ use Rattle.sqlite.specs.State.{State, Survives}
 use Rattle.sqlite.proofs.StateLemmas.{survives_weaker}
 use Rattle.ags_rows.specs.declared.TheConstants.{READABLE}
 use Rattle.reg_tables.specs.Tables.{first_schema, no_schema}
-use Rattle.reg_tables.specs.Texts.{create_meta, create_deposits, create_lines, create_steps, create_withdrawals, fill_meta}
+use Rattle.reg_tables.proofs.Texts.{create_meta, create_deposits, create_lines, create_steps, create_withdrawals, fill_meta}
 use Rattle.reg_tables.proofs.InsertsLaws.{fills_meta}
 use Rattle.reg_tables.specs.Commits.{Makes}
 use Rattle.reg_tables.specs.Inside.{Inside, Ran}

@@ -17,13 +17,13 @@ use Rattle.ags_rows.specs.declared.TheConstants.{READABLE}
 use Rattle.ags_dict.specs.Entries.{Entries}
 use Rattle.ags_dict.specs.Reading.{IsDictionary}
 use Rattle.reg_tables.specs.Tables.{meta, deposits, lines, steps, withdrawals, no_schema, first_schema, register_schema}
-use Rattle.reg_tables.specs.Texts.{create_meta, create_deposits, create_lines, create_steps, create_withdrawals}
+use Rattle.reg_tables.proofs.Texts.{create_meta, create_deposits, create_lines, create_steps, create_withdrawals}
 use Rattle.reg_tables.proofs.MeaningLaws.{meta_is, deposits_is, lines_is, steps_is, withdrawals_is, with_lines}
 use Rattle.reg_tables.proofs.MeaningLaws.{first_is, schema_is, meta_text, deposits_text, lines_text, steps_text}
 use Rattle.reg_tables.proofs.MeaningLaws.{MakesTable, withdrawals_text}
 use Rattle.reg_tables.specs.Meaning.{with_meta, with_deposits}
-use Rattle.reg_tables.specs.Rows.{columns_3, columns_5, dictionary_row, format_row, mark_column, meta_rows, rows_under}
-use Rattle.reg_tables.proofs.InsertsLaws.{FillsMeta, same_value, went}
+use Rattle.reg_tables.specs.Rows.{columns_3, columns_5, dictionary_row, format_row, mark_column, rows_under}
+use Rattle.reg_tables.proofs.InsertsLaws.{FillsMeta, meta_rows, same_value, went}
 use Rattle.reg_tables.specs.Register.{IsRegister, tables}
 use Rattle.reg_tables.specs.Creates.{Made, MakesWithdrawals, HasFirst, HasFour, IsNewRegister, IsEmptyRegister}
 

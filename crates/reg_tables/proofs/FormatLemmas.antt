@@ -16,9 +16,9 @@ use Rattle.sqlite.specs.Listing.{understood, reads_listing}
 use Rattle.sqlite.proofs.StateLemmas.{survives_weaker}
 use Rattle.sqlite.proofs.Callers.{IsPlain, command_of, never_commits, reads_as}
 use Rattle.reg_tables.specs.declared.schema.format.Format.{Format}
-use Rattle.reg_tables.specs.Tables.{HasTables, format_tables, format_number, schema_of}
+use Rattle.reg_tables.specs.Tables.{HasTables, format_number, schema_of}
 use Rattle.reg_tables.specs.Tables as tables
-use Rattle.reg_tables.specs.Texts.{select_meta}
+use Rattle.reg_tables.proofs.Texts.{select_meta}
 use Rattle.reg_tables.proofs.MeaningLaws.{all_meta, plainly}
 use Rattle.reg_tables.proofs.AnswersLaws.{answered, passes, shown_of}
 use Rattle.reg_tables.specs.Rows.{columns_3}
@@ -27,6 +27,7 @@ use Rattle.reg_tables.specs.Quiet.{IsAsBefore}
 use Rattle.reg_tables.specs.declared.error.AdoptError.TheVariants.{NotRegister, Version}
 use Rattle.reg_tables.specs.Adoption.{Adopts}
 use Rattle.reg_tables.proofs.QueryLemmas.{fails_keeps, shown_same}
+use Rattle.reg_tables.proofs.TablesLemmas.{format_tables}
 
 -- ---- the first table
 

@@ -29,13 +29,13 @@ use Rattle.sqlite.proofs.Callers.{statement_of, runs_as, one_step}
 use Rattle.reg_store.specs.declared.keep.KeptRow.{KeptRow}
 use Rattle.reg_store.specs.Sent.{Sent}
 use Rattle.reg_tables.specs.Tables.{simple, meta, deposits, lines, steps, withdrawals, register_schema}
-use Rattle.reg_tables.specs.Texts.{insert_deposit, insert_line, insert_step, insert_mark, insert_eight_lines}
-use Rattle.reg_tables.specs.Texts.{insert_eight_steps, fill_meta}
+use Rattle.reg_tables.proofs.Texts.{insert_deposit, insert_line, insert_step, insert_mark, insert_eight_lines}
+use Rattle.reg_tables.proofs.Texts.{insert_eight_steps, fill_meta}
 use Rattle.reg_tables.proofs.MeaningLaws.{InsertsInto, deposit_terms, deposit_is, line_terms, line_is, step_terms}
 use Rattle.reg_tables.proofs.MeaningLaws.{step_is, mark_terms, mark_is, eight_line_terms, eight_lines_are}
 use Rattle.reg_tables.proofs.MeaningLaws.{eight_step_terms, eight_steps_are, fill_terms, fill_is}
 use Rattle.reg_tables.specs.Rows.{columns_5, columns_3, joined, line_row, line_rows, step_row, step_rows, given_deposit}
-use Rattle.reg_tables.specs.Rows.{mark_column, mark_row, meta_rows}
+use Rattle.reg_tables.specs.Rows.{dictionary_row, format_row, mark_column, mark_row}
 use Rattle.reg_tables.proofs.PutLaws.{cast_int, IsBlind, AreSeen, seen_blind, all_seen}
 use Rattle.reg_tables.specs.Inserts.{AddsTo, AddsDeposit, AddsLines, AddsSteps, AddsMark}
 
@@ -45,6 +45,10 @@ same_value e = cc
 pub went : {B E R : Type 0} {b : B} {Stops : E → Type 0} → ((stop : E) × Stops stop × (Ok b ≡ Err stop)) ⊎ R → R
 went (inl stopped) = absurd (let e = stopped.2 in cc)
 went (inr on) = on
+
+-- the two rows of meta, as they are put
+abbrev pub meta_rows : ℕ → List ℕ → List Row
+meta_rows number text = format_row number ∷ dictionary_row text ∷ []
 
 abbrev pub FillsMeta : List ℕ → Database → Database → Type 0
 FillsMeta dictionary = AddsTo 0 columns_3 (meta_rows 2 dictionary)

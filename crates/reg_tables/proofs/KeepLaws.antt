@@ -13,7 +13,7 @@ use Rattle.ags_dict.specs.Entries.{Entries}
 use Rattle.ags_check.specs.Findings.{CheckedFile}
 use Rattle.reg_store.specs.Sent.{Sent}
 use Rattle.reg_store.specs.Deposit.{Deposit, marked, sents, unmarked}
-use Rattle.reg_tables.specs.Tables.{register_schema, register_tables}
+use Rattle.reg_tables.specs.Tables.{register_schema}
 use Rattle.reg_tables.specs.Inserts.{AddsFile, AddsMark}
 use Rattle.reg_tables.proofs.MethodsLaws.{slice_get_in}
 use Rattle.reg_store.specs.Fit.{kept_rows}
@@ -23,6 +23,7 @@ use Rattle.reg_tables.specs.ReadBack.{read_back}
 use Rattle.reg_tables.proofs.ReadBackLaws.{register_mark, register_push}
 use Rattle.reg_tables.specs.Quiet.{IsIdle, IsStill}
 use Rattle.reg_tables.proofs.QuietLaws.{clean_before}
+use Rattle.reg_tables.proofs.TablesLemmas.{register_tables}
 use Rattle.reg_tables.specs.KeepLaws.{under_schema, ChangesOf}
 
 pub schema_set : (a b : Schema) → IsProp (a ≡ b)

@@ -1,3 +1,6 @@
+pub mod Texts
+pub mod Known
+pub mod TablesLemmas
 pub mod AdoptsLaws
 pub mod AnswersLaws
 pub mod CreatesLaws

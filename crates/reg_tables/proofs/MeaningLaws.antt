@@ -22,10 +22,10 @@ use Rattle.sqlite.specs.Listing.{understood, reads_listing}
 use Rattle.sqlite.proofs.Callers.{IsPlain, command_of, statement_of}
 use Rattle.reg_tables.specs.Tables.{HasTables, meta, deposits, lines, steps, withdrawals, no_schema, first_schema}
 use Rattle.reg_tables.specs.Tables.{register_schema}
-use Rattle.reg_tables.specs.Texts.{create_meta, create_deposits, create_lines, create_steps, create_withdrawals}
-use Rattle.reg_tables.specs.Texts.{fill_meta, raise_format, insert_deposit, insert_line, insert_step, insert_mark}
-use Rattle.reg_tables.specs.Texts.{insert_eight_lines, insert_eight_steps, select_deposit, select_lines, select_steps}
-use Rattle.reg_tables.specs.Texts.{select_front, select_targets, select_all_numbers, select_marks, select_meta}
+use Rattle.reg_tables.proofs.Texts.{create_meta, create_deposits, create_lines, create_steps, create_withdrawals}
+use Rattle.reg_tables.proofs.Texts.{fill_meta, raise_format, insert_deposit, insert_line, insert_step, insert_mark}
+use Rattle.reg_tables.proofs.Texts.{insert_eight_lines, insert_eight_steps, select_deposit, select_lines, select_steps}
+use Rattle.reg_tables.proofs.Texts.{select_front, select_targets, select_all_numbers, select_marks, select_meta}
 use Rattle.reg_tables.specs.Meaning.{with_meta, with_deposits, IsPlainText}
 
 -- ---- the tables

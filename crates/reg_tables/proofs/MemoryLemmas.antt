@@ -22,7 +22,8 @@ use Rattle.reg_tables.specs.declared.memory.digests.Digests.{Digests}
 use Rattle.reg_tables.specs.Digests.{AddsNumber, AreBelow, AreDigested, PutsNumbers, numbers_under, own_digest}
 use Rattle.reg_tables.specs.Heads.{head_of}
 use Rattle.reg_tables.proofs.KeepLaws.{keeps_quiet}
-use Rattle.reg_tables.specs.Memory.{Agrees, AreKnown, IsComing, IsKnown, IsNumberOf, Remembers, bare_of, marked_known, new_known, with_mark}
+use Rattle.reg_tables.specs.Memory.{Agrees, AreKnown, IsComing, IsKnown, IsNumberOf, Remembers, new_known, with_mark}
+use Rattle.reg_tables.proofs.Known.{bare_of, marked_known}
 use Rattle.reg_tables.specs.Quiet.{IsStill}
 use Rattle.reg_tables.proofs.QuietLaws.{clean_before}
 use Rattle.reg_tables.specs.Register.{KeepsRegister, deposits_in, marks_of}

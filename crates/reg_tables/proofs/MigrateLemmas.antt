@@ -61,7 +61,7 @@ use Rattle.reg_tables.specs.Rows.{columns_3, columns_5, dictionary_row, mark_col
 use Rattle.reg_tables.specs.Tables.{meta, register_schema}
 use Rattle.reg_tables.specs.ReadBack.{read_back}
 use Rattle.reg_tables.proofs.ReadBackLaws.{unmarked_register}
-use Rattle.reg_tables.specs.Texts.{raise_format, select_meta}
+use Rattle.reg_tables.proofs.Texts.{raise_format, select_meta}
 use Rattle.reg_tables.proofs.FormatLemmas.{asks_meta}
 use Rattle.reg_tables.proofs.OpenLemmas.{found_tables}
 use Rattle.reg_tables.proofs.QueryLemmas.{shown_same}

@@ -20,7 +20,7 @@ use Rattle.reg_store.specs.declared.keep.KeepError.{KeepError}
 use Rattle.reg_store.specs.Sent.{Sent}
 use Rattle.reg_tables.specs.declared.schema.format.Format.TheVariants.{Second}
 use Rattle.reg_tables.specs.Tables.{HasTables, register_schema}
-use Rattle.reg_tables.specs.Texts.{select_all_numbers, select_marks, select_meta}
+use Rattle.reg_tables.proofs.Texts.{select_all_numbers, select_marks, select_meta}
 use Rattle.reg_tables.proofs.MeaningLaws.{all_marks, all_marks_read, all_numbers, all_numbers_read, all_meta}
 use Rattle.reg_tables.proofs.MeaningLaws.{all_meta_read}
 use Rattle.reg_tables.proofs.PutLaws.{less}

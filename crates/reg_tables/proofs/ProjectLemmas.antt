@@ -18,7 +18,7 @@ use Rattle.reg_store.specs.declared.keep.KeptRow.{KeptRow}
 use Rattle.reg_store.specs.declared.keep.ProjectRow.{ProjectRow}
 use Rattle.reg_store.specs.declared.keep.KeepError.{KeepError}
 use Rattle.reg_tables.specs.Tables.{HasTables}
-use Rattle.reg_tables.specs.Texts.{select_front, select_targets}
+use Rattle.reg_tables.proofs.Texts.{select_front, select_targets}
 use Rattle.reg_store.specs.Sent.{Sent}
 use Rattle.reg_store.specs.Deposit.{sents}
 use Rattle.reg_store.specs.Fit.{IsFileOf, kept_rows}

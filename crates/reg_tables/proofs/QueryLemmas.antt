@@ -15,7 +15,7 @@ use Rattle.sqlite.proofs.StateLemmas.{survives_weaker, survives_then}
 use Rattle.sqlite.proofs.Callers.{IsPlain, never_commits, unchanged_then}
 use Rattle.reg_tables.specs.Tables.{HasTables}
 use Rattle.reg_tables.specs.Meaning.{IsPlainText}
-use Rattle.reg_tables.specs.Found.{OnlyReads}
+use Rattle.reg_tables.specs.Found.{OnlyShows}
 use Rattle.reg_store.specs.declared.keep.KeepError.{KeepError}
 use Rattle.reg_store.specs.declared.keep.KeepError.TheVariants as keep
 use Rattle.reg_store.specs.Keep.{is_store}
@@ -66,7 +66,7 @@ shown_from sql params old mid new rows plain same h =
     )
 
 module _ (sql : List ℕ) where
-  pub asks_quietly : (old new : State) (params : Row) → OnlyReads sql old → Survives old new (CommitsShowing sql params old) → Survives old new (λ _. ⊥)
+  pub asks_quietly : (old new : State) (params : Row) → OnlyShows sql old → Survives old new (CommitsShowing sql params old) → Survives old new (λ _. ⊥)
   asks_quietly old new params plain s =
       survives_weaker old new _ _ (λ clean db. never_commits sql params old db (plain (omega (arith, s.clean)))) s
 

@@ -6,7 +6,7 @@ use Rattle.sqlite.specs.Order.{Row}
 use Rattle.sqlite.specs.State.{State, Shown}
 use Rattle.sqlite.proofs.Callers.{one_permutation}
 use Rattle.reg_tables.specs.Tables.{HasTables}
-use Rattle.reg_tables.specs.Texts.{select_lines, select_steps}
+use Rattle.reg_tables.proofs.Texts.{select_lines, select_steps}
 use Rattle.ags_links.specs.Steps.{IsBefore}
 use Rattle.sqlite.specs.Tree.{IsAscending}
 use Rattle.reg_store.specs.declared.keep.Kept.{Kept}

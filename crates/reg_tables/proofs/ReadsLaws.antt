@@ -23,7 +23,7 @@ use Rattle.sqlite_sql.proofs.QueryLemmas.{key_cmp_total}
 use Rattle.sqlite_keyed.proofs.SortLemmas.{sorted_unique}
 use Rattle.reg_store.specs.declared.keep.KeptRow.{KeptRow}
 use Rattle.reg_tables.specs.Tables.{HasTables}
-use Rattle.reg_tables.specs.Texts.{select_lines}
+use Rattle.reg_tables.proofs.Texts.{select_lines}
 use Rattle.reg_tables.proofs.MeaningLaws.{lines_of_deposit, lines_read}
 use Rattle.reg_tables.proofs.PutLaws.{less}
 use Rattle.reg_tables.specs.Rows.{columns_5, line_table, placed_row, placed_rows, is_of, rows_under}

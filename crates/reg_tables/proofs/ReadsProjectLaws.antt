@@ -26,7 +26,7 @@ use Rattle.sqlite_keyed.proofs.ListLemmas.{IsPermutation-filter, ascending-map, 
 use Rattle.ags_links.specs.Steps.{IsBefore}
 use Rattle.reg_store.specs.declared.keep.KeptRow.{KeptRow}
 use Rattle.reg_tables.specs.Tables.{HasTables}
-use Rattle.reg_tables.specs.Texts.{select_front, select_targets}
+use Rattle.reg_tables.proofs.Texts.{select_front, select_targets}
 use Rattle.reg_tables.proofs.MeaningLaws.{front_of_deposit, front_read, targets_of_row, targets_read}
 use Rattle.reg_tables.proofs.PutLaws.{less}
 use Rattle.reg_tables.specs.Pushes.{equal_at, apart_at}

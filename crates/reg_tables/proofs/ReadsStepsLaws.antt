@@ -20,7 +20,7 @@ use Rattle.sqlite_keyed.proofs.ListLemmas.{ascending-map, ascending_weaker}
 use Rattle.ags_links.specs.Steps.{IsBefore}
 use Rattle.reg_store.specs.declared.keep.KeptRow.{KeptRow}
 use Rattle.reg_tables.specs.Tables.{HasTables}
-use Rattle.reg_tables.specs.Texts.{select_steps}
+use Rattle.reg_tables.proofs.Texts.{select_steps}
 use Rattle.reg_tables.proofs.MeaningLaws.{steps_of_deposit, steps_read}
 use Rattle.reg_tables.proofs.PutLaws.{less}
 use Rattle.reg_tables.specs.Rows.{columns_3, step_table, step_pair, placed_rows, is_of, rows_under}

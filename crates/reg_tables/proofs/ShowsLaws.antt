@@ -10,7 +10,7 @@ use Rattle.sqlite_keyed.proofs.ListLemmas.{IsPermutation-filter}
 use Rattle.reg_store.specs.declared.keep.KeepError.{KeepError}
 use Rattle.reg_store.specs.Sent.{Sent}
 use Rattle.reg_tables.specs.Tables.{HasTables}
-use Rattle.reg_tables.specs.Texts.{select_deposit}
+use Rattle.reg_tables.proofs.Texts.{select_deposit}
 use Rattle.reg_tables.specs.Rows.{deposit_table, given_deposit}
 use Rattle.reg_tables.specs.Register.{deposit_rows, has_number}
 use Rattle.reg_tables.specs.RegisterLaws.{none_before}

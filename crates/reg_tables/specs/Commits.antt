@@ -1,4 +1,5 @@
--- What a call that changes the tables in a transaction of its own does, and what it leaves.
+-- What a call that changes the tables in a transaction of its own does, and what it leaves. No promise is made of these
+-- words.
 use Rattle.std.specs.Prelude.{◌≡◌, false, IsTrue, Result, OnOk, OnErr}
 use Rattle.sqlite.specs.Effect.{Database, IsDatabase}
 use Rattle.sqlite.specs.State.{State, HasCleanDisk}

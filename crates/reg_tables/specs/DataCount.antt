@@ -1,4 +1,4 @@
--- Which of the rows that a SELECT of lines shows are DATA rows.
+-- Which of the rows that a SELECT of lines shows are DATA rows. No promise is made of these words.
 use Rattle.std.proofs.Common.{pos, Bool, false, ◌==◌}
 use Rattle.sqlite.specs.declared.types.Value.{Value}
 use Rattle.sqlite.specs.declared.types.Value.TheVariants.{Int}

@@ -1,4 +1,4 @@
--- What is filed, as a deposit, and its adding.
+-- What is filed, as a deposit, and its adding. No promise is made of these words.
 use Rattle.std.specs.Prelude.{ℕ, ℤ, List, Result, pos}
 use Rattle.sqlite.specs.Effect.{Database}
 use Rattle.sqlite.specs.State.{State, Survives}

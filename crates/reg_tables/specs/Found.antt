@@ -1,4 +1,4 @@
--- What the queries of a register find, and what they leave.
+-- What the queries of a register find, and what they leave. No promise is made of these words.
 use Rattle.std.specs.Prelude.{◌≡◌, ℕ, Bool, true, false, List, map, filter, length, Option, None, is_some, IfSome}
 use Rattle.std.specs.Prelude.{Result, Ok, IfOk, OnOk}
 use Rattle.std.specs.declared.alloc.Global.{Global}
@@ -22,9 +22,10 @@ use Rattle.reg_tables.specs.Adopts.{number_rows}
 use Rattle.reg_tables.specs.Methods.{HoldsLines, HoldsSteps}
 use Rattle.reg_tables.specs.Whole.{Tests}
 
--- On a clean disk, the text only reads.
-abbrev pub OnlyReads : List ℕ → State → Type 0
-OnlyReads sql s = HasCleanDisk s → IsPlain (understood s.now.schema sql)
+-- On a clean disk, a query of the text only shows rows: it is a statement that has no RETURNING and does not read the
+-- time.
+abbrev pub OnlyShows : List ℕ → State → Type 0
+OnlyShows sql s = HasCleanDisk s → IsPlain (understood s.now.schema sql)
 
 -- On a clean disk, the rows that are found are those that the query shows.
 abbrev pub FindsShown : {E : Type 0} → Result (Vec Row Global) E → List ℕ → Row → State → State → Type 0

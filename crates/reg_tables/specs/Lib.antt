@@ -1,5 +1,4 @@
 pub mod Tables
-pub mod Texts
 pub mod Meaning
 pub mod Rows
 pub mod Inserts

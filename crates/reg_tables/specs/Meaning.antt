@@ -1,4 +1,4 @@
--- Schemas while a register is made, and texts that change no schema.
+-- Schemas while a register is made, and texts of plain statements. No promise is made of these words.
 use Rattle.std.specs.Prelude.{List, ℕ}
 use Rattle.sqlite.specs.Change.{created}
 use Rattle.sqlite.specs.Schema.{Schema}
@@ -13,6 +13,7 @@ with_meta = created no_schema meta
 abbrev pub with_deposits : Schema
 with_deposits = created with_meta (record deposits { tree = 0 })
 
--- The text changes no schema that begins with the tables of a register.
+-- In each schema that begins with the tables of a register, the text is a statement that has no RETURNING and does not
+-- read the time.
 abbrev pub IsPlainText : List ℕ → Type 0
 IsPlainText text = (schema : Schema) → HasTables schema → IsPlain (understood schema text)

@@ -28,16 +28,6 @@ new_known head = record { head = head; project = None; alone = None }
 abbrev pub with_mark : KeptHead → Bool → KeptHead
 with_mark head mark = record { firm = head.firm; project = head.project; embargo = head.embargo; withdrawn = mark }
 
--- of deposits of these heads and marks nothing was read
-abbrev pub marked_known : List KeptHead → List Bool → List Known
-marked_known [] marks = []
-marked_known (head ∷ heads) [] = []
-marked_known (head ∷ heads) (mark ∷ marks) = new_known (with_mark head mark) ∷ marked_known heads marks
-
--- A deposit of the head that is known, without bytes.
-abbrev pub bare_of : Known → Sent
-bare_of one = record { firm = one.head.firm; project = one.head.project; embargo = one.head.embargo; bytes = [] }
-
 -- The DATA row of the file has no step.
 abbrev pub HasNoTarget : ℕ → CheckedFile → Type 0
 HasNoTarget row file = [] ≡ targets_of row file.graph.steps

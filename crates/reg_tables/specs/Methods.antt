@@ -1,4 +1,5 @@
--- What the reading methods of the store say, from what the connection shows.
+-- What the private functions that read lines and steps find, from what the connection shows. No promise is made of
+-- these words.
 use Rattle.std.specs.Prelude.{◌≡◌, ℕ, List, length, map}
 use Rattle.std.specs.List.Sorted.{IsPermutation}
 use Rattle.sqlite.specs.Tree.{IsAscending}

@@ -64,7 +64,7 @@ impl<S: Alter> Keep for SqlKeep<S> {
         bytes: &[u8],
     ) -> Result<Option<u32>, KeepError> {
         let digest = digest_of(firm, project, bytes);
-        let numbers = self.memory.numbers_of(&digest);
+        let numbers = self.memory.held_with_digest(&digest);
         let found = read_equal(
             &mut self.connection,
             self.alloc,

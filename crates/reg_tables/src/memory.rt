@@ -144,7 +144,7 @@ impl Memory {
     }
 
     /// The numbers of the deposits of a digest.
-    pub(crate) fn numbers_of(&self, digest: &[u8; 32]) -> &[u32]
+    pub(crate) fn held_with_digest(&self, digest: &[u8; 32]) -> &[u32]
         ensures { result.now ≡ numbers_under self.now.digests digest.now }
     {
         self.digests.of(digest)

@@ -31,8 +31,8 @@ use crate::open::recall::recall;
 use crate::open::tables::examine_tables;
 use crate::read::queries::keep_error;
 use crate::schema::format::Format;
-use reg_store::{KeepError, NoProgress, Progress};
-use sqlite::{Alter, Connection, File, FileFrom, FileStore, Start, Unknown};
+use reg_store::{KeepError, Progress};
+use sqlite::{Alter, Connection, FileFrom, FileStore, Start};
 use std::alloc::Global;
 
 impl<S: Alter> SqlKeep<S> {
@@ -81,34 +81,12 @@ impl<S: Alter> SqlKeep<S> {
     }
 }
 
-impl SqlKeep<FileStore<File>> {
-    /// The register that the database at a path holds.
-    ///
-    /// It is `open_from` with `Unknown`. Its one clause says that the store has not failed. No clause says what it
-    /// holds, or when it is refused.
-    pub fn open(
-        rt: &HostRuntime,
-        alloc: Global,
-        path: &str,
-    ) -> Result<SqlKeep<FileStore<File>>, AdoptError>
-        ensures working { IfOk result (λ k. k.has_failed ≡ false) }
-    {
-        match SqlKeep::open_from(rt, alloc, path, Unknown, &mut NoProgress) {
-            Ok(keep) => Ok(keep),
-            Err((error, connection)) => {
-                close_file(None, connection);
-                Err(error)
-            }
-        }
-    }
-}
-
 impl<F: Start> SqlKeep<FileStore<FileFrom<F>>> {
     /// The register that the database at a path holds, where `F` stands for what its files held.
     ///
     /// A file that cannot be opened is `Store`, or `NoMemory`; every other refusal comes with the connection that was
     /// opened. `progress` takes note of the deposits that are checked; no clause says so.
-    pub fn open_from<P: Progress>(
+    pub fn open<P: Progress>(
         rt: &HostRuntime,
         alloc: Global,
         path: &str,
@@ -139,9 +117,7 @@ impl<F: Start> SqlKeep<FileStore<FileFrom<F>>> {
     }
 
     /// Drops the register and closes its file. No clause says what that does to the file.
-    pub fn close(self) {
-        close_file(Some(self), None);
-    }
+    pub fn close(self) {}
 }
 
 /// Opens the database at a path, where `F` stands for what its files held.
@@ -158,15 +134,3 @@ pub(crate) fn connect<F: Start>(
         Err((error, _left)) => Err(keep_error(&error)),
     }
 }
-
-/// Drops a register in a file, or its connection. That a file is a store is shown here once for both, since that is
-/// long.
-pub(crate) fn close_file<F: Start>(
-    keep: Option<SqlKeep<FileStore<FileFrom<F>>>>,
-    connection: Option<Connection<FileStore<FileFrom<F>>>>,
-) {
-    release(keep, connection);
-}
-
-/// Drops a register, or the connection that comes with a refusal.
-fn release<S: Alter + Drop>(_keep: Option<SqlKeep<S>>, _connection: Option<Connection<S>>) {}

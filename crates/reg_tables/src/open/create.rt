@@ -19,14 +19,14 @@ ghost use Rattle.reg_tables.specs.Opened.{FindsEmpty, FindsNotEmpty};
 use crate::error::CreateError;
 use crate::keep::SqlKeep;
 use crate::memory::Memory;
+use crate::open::connect;
 use crate::open::new_tables::NewTables;
-use crate::open::{close_file, connect};
 use crate::schema::is_vacant;
 use crate::write::change::change_tables;
 use ags_dict::{DictError, Dictionary};
 use ags_rows::READABLE;
 use reg_store::KeepError;
-use sqlite::{Alter, Connection, File, FileFrom, FileStore, MemStore, Start, Unknown};
+use sqlite::{Alter, Connection, FileFrom, FileStore, MemStore, Start};
 use std::alloc::Global;
 
 impl<S: Alter> SqlKeep<S> {
@@ -149,40 +149,13 @@ impl SqlKeep<MemStore> {
     }
 }
 
-impl SqlKeep<FileStore<File>> {
-    /// An empty register in the database at a path.
-    ///
-    /// It is `create_from` with `Unknown`, so no clause says what the file held.
-    pub fn create(
-        rt: &HostRuntime,
-        alloc: Global,
-        path: &str,
-        bytes: &[u8],
-    ) -> Result<SqlKeep<FileStore<File>>, CreateError>
-        requires short { length bytes.now ≤ READABLE }
-        ensures empty { IfOk result (λ k. HasNoDeposit (file_state k.connection)) }
-        ensures dictionary { IfOk result (λ k. ReadsDictionary bytes.now (Ok k.dictionary)) }
-        ensures register { IfOk result (λ k. ShowsEmptyRegister bytes.now (file_state k.connection)) }
-        ensures working { IfOk result (λ k. k.has_failed ≡ false) }
-        ensures refused { IfErr result (RefusesBytes bytes.now) }
-    {
-        match SqlKeep::create_from(rt, alloc, path, bytes, Unknown) {
-            Ok(keep) => Ok(keep),
-            Err((error, connection)) => {
-                close_file(None, connection);
-                Err(error)
-            }
-        }
-    }
-}
-
 impl<F: Start> SqlKeep<FileStore<FileFrom<F>>> {
     /// An empty register in the database at a path that had no table, index or view, where `F` stands for what its
     /// files held.
     ///
     /// `NotEmpty` and `Store` come only where the bytes are a dictionary. `NotEmpty` comes with the connection that was
     /// opened. A file that cannot be opened is `Store`, or `NoMemory`; no clause says so.
-    pub fn create_from(
+    pub fn create(
         rt: &HostRuntime,
         alloc: Global,
         path: &str,

@@ -17,15 +17,15 @@ ghost use Rattle.reg_tables.specs.declared.schema.format.Format.TheVariants.{Fir
 use crate::error::{AdoptError, MigrateError};
 use crate::keep::SqlKeep;
 use crate::memory::Memory;
+use crate::open::connect;
 use crate::open::recall::recall_first;
 use crate::open::second_format::SecondFormat;
 use crate::open::tables::examine_tables;
-use crate::open::{close_file, connect};
 use crate::schema::format::Format;
 use crate::write::change::change_tables;
 use ags_dict::Dictionary;
-use reg_store::{KeepError, NoProgress, Progress};
-use sqlite::{Alter, Connection, File, FileFrom, FileStore, Start, Unknown};
+use reg_store::{KeepError, Progress};
+use sqlite::{Alter, Connection, FileFrom, FileStore, Start};
 use std::alloc::Global;
 
 impl<S: Alter> SqlKeep<S> {
@@ -71,35 +71,13 @@ impl<S: Alter> SqlKeep<S> {
     }
 }
 
-impl SqlKeep<FileStore<File>> {
-    /// The register of format 1 that the database at a path holds, as one of format 2 without a mark.
-    ///
-    /// It is `migrate_from` with `Unknown`. Its one clause says that the store has not failed. No clause says what it
-    /// holds, or when it is refused.
-    pub fn migrate(
-        rt: &HostRuntime,
-        alloc: Global,
-        path: &str,
-    ) -> Result<SqlKeep<FileStore<File>>, MigrateError>
-        ensures working { IfOk result (λ k. k.has_failed ≡ false) }
-    {
-        match SqlKeep::migrate_from(rt, alloc, path, Unknown, &mut NoProgress) {
-            Ok(keep) => Ok(keep),
-            Err((error, connection)) => {
-                close_file(None, connection);
-                Err(error)
-            }
-        }
-    }
-}
-
 impl<F: Start> SqlKeep<FileStore<FileFrom<F>>> {
     /// The register of format 1 that the database at a path holds, as one of format 2. `F` stands for what its files
     /// held.
     ///
     /// A file that cannot be opened is `Store`, or `NoMemory`; every other refusal comes with the connection that was
     /// opened. `progress` takes note of the deposits that are checked; no clause says so.
-    pub fn migrate_from<P: Progress>(
+    pub fn migrate<P: Progress>(
         rt: &HostRuntime,
         alloc: Global,
         path: &str,

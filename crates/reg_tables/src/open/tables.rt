@@ -72,7 +72,7 @@ fn refuse_tables<S: Alter>(conn: &mut Connection<S>, format: Format) -> AdoptErr
     ensures still { StaysIfOpen (state S.Store conn.old) (state S.Store conn.new) }
     ensures crash { Survives (state S.Store conn.old) (state S.Store conn.new) (λ _. ⊥) }
 {
-    match ask_meta(conn) {
+    match read_meta_rows(conn) {
         Ok(rows) => match other_format(&rows, format.number()) {
             Some(number) => AdoptError::Version(number),
             None => AdoptError::NotRegister,
@@ -81,7 +81,7 @@ fn refuse_tables<S: Alter>(conn: &mut Connection<S>, format: Format) -> AdoptErr
     }
 }
 
-fn ask_meta<S: Alter>(conn: &mut Connection<S>) -> Result<Vec<Row>, Error>
+fn read_meta_rows<S: Alter>(conn: &mut Connection<S>) -> Result<Vec<Row>, Error>
     requires mode { conn.old.in_transaction ≡ false }
     requires meta { StartsWithMeta (state S.Store conn.old).now.schema }
     requires settled { HasCleanDisk (state S.Store conn.old) → IsSettled (state S.Store conn.old) }

@@ -5,7 +5,7 @@ ghost use Rattle.sqlite.specs.Values.{bound};
 ghost use Rattle.sqlite.specs.State.{HasCleanDisk, Survives, IsUnchanged};
 ghost use Rattle.sqlite.specs.Held.{state};
 ghost use Rattle.reg_tables.specs.Quiet.{IsIdle, IsSettled, IsStill, StaysIfOpen};
-ghost use Rattle.reg_tables.specs.Found.{FindsShown, OnlyReads};
+ghost use Rattle.reg_tables.specs.Found.{FindsShown, OnlyShows};
 ghost use Rattle.reg_store.specs.Keep.{fails, is_store};
 
 use reg_store::KeepError;
@@ -18,7 +18,7 @@ pub(crate) fn query<S: Alter>(
     sql: &str,
     params: &[ValueRef<'_>],
 ) -> Result<Vec<Row>, KeepError>
-    requires plain { OnlyReads sql.now (state S.Store conn.old) }
+    requires plain { OnlyShows sql.now (state S.Store conn.old) }
     requires idle { IsIdle (state S.Store conn.old) }
     ensures shown { FindsShown result sql.now (bound params.now) (state S.Store conn.old) (state S.Store conn.new) }
     ensures open { HasCleanDisk (state S.Store conn.new) → fails result ≡ false
@@ -37,7 +37,7 @@ fn ask<S: Alter>(
     sql: &str,
     params: &[ValueRef<'_>],
 ) -> Result<Vec<Row>, Error>
-    requires plain { OnlyReads sql.now (state S.Store conn.old) }
+    requires plain { OnlyShows sql.now (state S.Store conn.old) }
     requires idle { IsIdle (state S.Store conn.old) }
     ensures mode { conn.new.in_transaction ≡ false }
     ensures open { HasCleanDisk (state S.Store conn.new) → OnOk result (IsTrue (state S.Store conn.new).is_open) }

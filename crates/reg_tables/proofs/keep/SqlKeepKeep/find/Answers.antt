@@ -33,7 +33,7 @@ returns-clause-found g c clean =
     let first = clean_before old new c.read_equal-found.ensures.quiet.survives clean in
     let kept = keep.kept c.requires.working first in
     let agrees = keep.agrees c.requires.working first in
-    let own : c.numbers_of-numbers.result.now ≡ numbers_under keep.memory.digests (digest_of c.args.firm.now c.args.project.now c.args.bytes.now) = c.numbers_of-numbers.ensures ∙ ap (numbers_under keep.memory.digests) c.digest_of-digest.ensures in
-    repeat_found {s = old} c.args.firm.now c.args.project.now c.args.bytes.now keep.memory.digests c.numbers_of-numbers.result.now c.read_equal-found.result kept own
+    let own : c.held_with_digest-numbers.result.now ≡ numbers_under keep.memory.digests (digest_of c.args.firm.now c.args.project.now c.args.bytes.now) = c.held_with_digest-numbers.ensures ∙ ap (numbers_under keep.memory.digests) c.digest_of-digest.ensures in
+    repeat_found {s = old} c.args.firm.now c.args.project.now c.args.bytes.now keep.memory.digests c.held_with_digest-numbers.result.now c.read_equal-found.result kept own
     (subst (λ n. AreBelow keep.memory.digests (n + 1)) (sym (counted_at {s = old} kept)) agrees.below) agrees.digests
     (c.read_equal-found.ensures.equal clean) c.read_equal-found.ensures.among (c.read_equal-found.ensures.none clean)

@@ -2,7 +2,7 @@ use Rattle.std.proofs.Common.{◌++◌, ◌+◌, ◌≤◌, ◌∙◌, List, app
 use Rattle.std.proofs.lemmas.List.{drop_all}
 use Rattle.reg_store.specs.Sent.{numbers_from}
 use Rattle.reg_tables.specs.declared.memory.Known.{Known}
-use Rattle.reg_tables.specs.Memory.{bare_of}
+use Rattle.reg_tables.proofs.Known.{bare_of}
 use Rattle.reg_tables.proofs.MemoryLemmas.{numbers_held}
 use Rattle.reg_tables.proofs.memory.Memory.held_numbers.Goals as goal
 

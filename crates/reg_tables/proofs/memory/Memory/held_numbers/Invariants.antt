@@ -1,5 +1,5 @@
 use Rattle.std.proofs.Common.{◌≡◌, ◌+◌, ◌++◌, map, drop}
-use Rattle.reg_tables.specs.Memory.{bare_of}
+use Rattle.reg_tables.proofs.Known.{bare_of}
 use Rattle.reg_store.specs.Sent.{numbers_from}
 use Rattle.reg_tables.proofs.memory.Memory.held_numbers.Given as goal
 

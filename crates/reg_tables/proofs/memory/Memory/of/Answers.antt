@@ -3,8 +3,9 @@ use Rattle.std.proofs.lemmas.Option.{slice_get_read}
 use Rattle.reg_store.specs.Deposit.{sents}
 use Rattle.reg_store.specs.declared.keep.KeptHead.{KeptHead}
 use Rattle.reg_tables.specs.Heads.{head_of}
-use Rattle.reg_tables.specs.Memory.{AreKnown, marked_known, new_known, with_mark}
+use Rattle.reg_tables.specs.Memory.{AreKnown, new_known, with_mark}
 use Rattle.reg_tables.specs.declared.memory.Known.{Known}
+use Rattle.reg_tables.proofs.Known.{marked_known}
 use Rattle.reg_tables.proofs.MemoryLemmas.{get_there, known_all, known_new, long_known, marked_more}
 use Rattle.reg_tables.proofs.memory.Memory.of.Goals as goal
 

@@ -1,5 +1,5 @@
 use Rattle.std.proofs.Common.{◌≡◌, take}
-use Rattle.reg_tables.specs.Memory.{marked_known}
+use Rattle.reg_tables.proofs.Known.{marked_known}
 use Rattle.reg_tables.proofs.memory.Memory.of.Given as goal
 
 -- of the deposits so far nothing was read

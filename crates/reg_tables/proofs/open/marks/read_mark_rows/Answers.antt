@@ -6,7 +6,7 @@ use Rattle.sqlite.specs.Held.{state}
 use Rattle.sqlite.proofs.Callers.{IsPlain}
 use Rattle.reg_tables.proofs.MeaningLaws.{all_marks_read}
 use Rattle.reg_tables.proofs.OrderedLaws.{marks_by}
-use Rattle.reg_tables.specs.Texts.{select_marks}
+use Rattle.reg_tables.proofs.Texts.{select_marks}
 use Rattle.reg_tables.proofs.open.marks.read_mark_rows.Goals as goal
 
 pub query-requires-clause-plain : goal.query-requires-clause-plain

@@ -1,8 +1,8 @@
 use Rattle.std.proofs.Common.{rules, sym}
 use Rattle.sqlite.specs.Held.{state}
-use Rattle.reg_tables.specs.Tables.{format_tables}
 use Rattle.reg_tables.proofs.FormatLemmas.{autocommit_idle, refused_unstarted}
 use Rattle.reg_tables.proofs.QueryLemmas.{survives_none}
+use Rattle.reg_tables.proofs.TablesLemmas.{format_tables}
 use Rattle.reg_tables.proofs.open.tables.examine_tables.Goals as goal
 
 pub returns-then-not-has_meta-clause-refused : goal.returns-then-not-has_meta-clause-refused

@@ -22,16 +22,16 @@ returns-in-Ok-clause-refused g c clean =
     refused_tables c.args.format (state g.S.Store c.args.conn.now).now rows c.requires.other (c.in-Ok.ensures.shown clean) (rw (same, c.number.ensures) at (c.in-None.ensures.none refl))
 
 pub returns-in-Some-clause-same : goal.returns-in-Some-clause-same
-returns-in-Some-clause-same g c clean well = let o = c.in-Ok.ensures.open clean in let it = c.ask_meta.ensures.same clean o in (both_open o it.0, it.1, it.2)
+returns-in-Some-clause-same g c clean well = let o = c.in-Ok.ensures.open clean in let it = c.read_meta_rows.ensures.same clean o in (both_open o it.0, it.1, it.2)
 
 pub returns-in-Some-clause-still : goal.returns-in-Some-clause-still
-returns-in-Some-clause-still g c = c.ask_meta.ensures.same
+returns-in-Some-clause-still g c = c.read_meta_rows.ensures.same
 
 pub returns-in-Ok-clause-same : goal.returns-in-Ok-clause-same
-returns-in-Ok-clause-same g c clean well = let o = c.in-Ok.ensures.open clean in let it = c.ask_meta.ensures.same clean o in (both_open o it.0, it.1, it.2)
+returns-in-Ok-clause-same g c clean well = let o = c.in-Ok.ensures.open clean in let it = c.read_meta_rows.ensures.same clean o in (both_open o it.0, it.1, it.2)
 
 pub returns-in-Ok-clause-still : goal.returns-in-Ok-clause-still
-returns-in-Ok-clause-still g c = c.ask_meta.ensures.same
+returns-in-Ok-clause-still g c = c.read_meta_rows.ensures.same
 
 pub returns-clause-refused : goal.returns-clause-refused
 returns-clause-refused g c clean = fault_is (λ a. Adopts c.args.format (state g.S.Store c.args.conn.now).now (Err a)) c.refusal.result c.from.result c.from.ensures tt tt
@@ -40,14 +40,14 @@ pub returns-clause-same : goal.returns-clause-same
 returns-clause-same g c clean well =
     let old = state g.S.Store c.args.conn.now in
     let new = state g.S.Store c.refusal.new.conn in
-    let quiet = fault_quiet old new c.refusal.result c.from.result c.from.ensures (refused_quiet old (state g.S.Store c.ask_meta.new.conn) new _ (c.refusal.ensures.mode c.ask_meta.ensures.mode) c.ask_meta.ensures.same c.ask_meta.ensures.crash c.refusal.ensures.known c.refusal.ensures.still c.refusal.ensures.crash) in
+    let quiet = fault_quiet old new c.refusal.result c.from.result c.from.ensures (refused_quiet old (state g.S.Store c.read_meta_rows.new.conn) new _ (c.refusal.ensures.mode c.read_meta_rows.ensures.mode) c.read_meta_rows.ensures.same c.read_meta_rows.ensures.crash c.refusal.ensures.known c.refusal.ensures.still c.refusal.ensures.crash) in
     (quiet.is_open clean well, (quiet.same clean well).0, (quiet.same clean well).1)
 
 pub returns-clause-still : goal.returns-clause-still
-returns-clause-still g c = still_then (state g.S.Store c.args.conn.now) (state g.S.Store c.ask_meta.new.conn) (state g.S.Store c.refusal.new.conn) c.ask_meta.ensures.same c.refusal.ensures.still c.refusal.ensures.crash
+returns-clause-still g c = still_then (state g.S.Store c.args.conn.now) (state g.S.Store c.read_meta_rows.new.conn) (state g.S.Store c.refusal.new.conn) c.read_meta_rows.ensures.same c.refusal.ensures.still c.refusal.ensures.crash
 
 pub returns-clause-crash : goal.returns-clause-crash
-returns-clause-crash g c = survives_then (state g.S.Store c.args.conn.now) (state g.S.Store c.ask_meta.new.conn) (state g.S.Store c.refusal.new.conn) _ _ (λ _. ⊥) (λ _ db none. none) (λ _ db none. none) c.ask_meta.ensures.crash c.refusal.ensures.crash
+returns-clause-crash g c = survives_then (state g.S.Store c.args.conn.now) (state g.S.Store c.read_meta_rows.new.conn) (state g.S.Store c.refusal.new.conn) _ _ (λ _. ⊥) (λ _ db none. none) (λ _ db none. none) c.read_meta_rows.ensures.crash c.refusal.ensures.crash
 
 pub refusal-requires : goal.refusal-requires
-refusal-requires g c = record { settled = settled_then (state g.S.Store c.args.conn.now) (state g.S.Store c.ask_meta.new.conn) c.requires.settled c.ask_meta.ensures.same c.ask_meta.ensures.crash }
+refusal-requires g c = record { settled = settled_then (state g.S.Store c.args.conn.now) (state g.S.Store c.read_meta_rows.new.conn) c.requires.settled c.read_meta_rows.ensures.same c.read_meta_rows.ensures.crash }

@@ -2,7 +2,7 @@ use Rattle.std.proofs.Common.{rules, arith, IsTrue, sym, subst}
 use Rattle.sqlite.specs.State.{HasCleanDisk}
 use Rattle.sqlite.specs.Files.{file_state}
 use Rattle.reg_tables.proofs.OpenLemmas.{found_schema}
-use Rattle.reg_tables.proofs.open.create.SqlKeep+FileStore+FileFrom+F.create_from.Goals as goal
+use Rattle.reg_tables.proofs.open.create.SqlKeep+FileStore+FileFrom+F.create.Goals as goal
 
 pub returns-in-Ok-make-clause-blank : goal.returns-in-Ok-make-clause-blank
 returns-in-Ok-make-clause-blank g c clean =

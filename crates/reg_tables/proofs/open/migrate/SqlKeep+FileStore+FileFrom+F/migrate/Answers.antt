@@ -3,7 +3,7 @@ use Rattle.sqlite.specs.State.{HasCleanDisk}
 use Rattle.sqlite.specs.Files.{file_state}
 use Rattle.reg_tables.proofs.MigrateLemmas.{found_first}
 use Rattle.reg_tables.proofs.OpenLemmas.{found_refused}
-use Rattle.reg_tables.proofs.open.migrate.SqlKeep+FileStore+FileFrom+F.migrate_from.Goals as goal
+use Rattle.reg_tables.proofs.open.migrate.SqlKeep+FileStore+FileFrom+F.migrate.Goals as goal
 
 pub returns-in-Ok-migrate_in-clause-migrated : goal.returns-in-Ok-migrate_in-clause-migrated
 returns-in-Ok-migrate_in-clause-migrated g c clean =

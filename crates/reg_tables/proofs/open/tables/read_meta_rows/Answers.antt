@@ -2,7 +2,7 @@ use Rattle.std.proofs.Common.{arith}
 use Rattle.sqlite.specs.State.{HasCleanDisk}
 use Rattle.sqlite.specs.Held.{state}
 use Rattle.reg_tables.proofs.FormatLemmas.{asks_quietly, open_by, rows_by, same_by}
-use Rattle.reg_tables.proofs.open.tables.ask_meta.Goals as goal
+use Rattle.reg_tables.proofs.open.tables.read_meta_rows.Goals as goal
 
 pub returns-clause-shown : goal.returns-clause-shown
 returns-clause-shown g c clean =

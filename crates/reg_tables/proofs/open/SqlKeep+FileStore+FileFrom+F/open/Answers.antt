@@ -2,7 +2,7 @@ use Rattle.std.proofs.Common.{rules, arith, IsTrue, sym, subst}
 use Rattle.sqlite.specs.State.{HasCleanDisk}
 use Rattle.sqlite.specs.Files.{file_state}
 use Rattle.reg_tables.proofs.OpenLemmas.{found_register, found_refused}
-use Rattle.reg_tables.proofs.open.SqlKeep+FileStore+FileFrom+F.open_from.Goals as goal
+use Rattle.reg_tables.proofs.open.SqlKeep+FileStore+FileFrom+F.open.Goals as goal
 
 pub returns-in-Ok-adopt-clause-adopted : goal.returns-in-Ok-adopt-clause-adopted
 returns-in-Ok-adopt-clause-adopted g c clean =
