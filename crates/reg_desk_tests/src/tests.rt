@@ -20,6 +20,7 @@ use ags_rows::vectors::MINI;
 use bodies::{LENGTHS, bytes_of};
 use examples::{CHANGED, EXAMPLES, LONG, MOST};
 use laws::answers_after_deposit;
+use memory::again::is_answered_again;
 use memory::is_refused_once;
 use policies::{Added, WITHDRAWALS, policy_with};
 use refusing::Refusing;
@@ -130,6 +131,8 @@ pub enum Play {
     Under(Added, &'static [Step]),
     /// Six runs are asked, where withdrawals are permitted and memory may be refused once.
     Runs,
+    /// Five requests are asked, each until it is answered otherwise than out of memory; withdrawals are permitted.
+    Again,
     /// Four requests are asked after a deposit of this body.
     AfterDeposit(&'static Body),
 }
@@ -194,6 +197,7 @@ fn answers<K: Keep>(
     match play {
         Play::Steps(steps) | Play::Under(_, steps) => hold(alloc, desk, callers, project, steps),
         Play::Runs => Ok(is_refused_once(alloc, desk, callers, project)),
+        Play::Again => Ok(is_answered_again(alloc, desk, callers, project)),
         Play::AfterDeposit(body) => answers_after_deposit(alloc, desk, callers, project, body),
     }
 }
@@ -330,7 +334,7 @@ fn plays_over(
 fn policy_for(alloc: Global, play: Play) -> Option<Policy> {
     match play {
         Play::Under(added, _) => policy_with(alloc, &added),
-        Play::Runs => policy_with(alloc, &WITHDRAWALS),
+        Play::Runs | Play::Again => policy_with(alloc, &WITHDRAWALS),
         _ => Policy::read(alloc, POLICY).ok(),
     }
 }

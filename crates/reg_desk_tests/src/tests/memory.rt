@@ -3,6 +3,8 @@
 
 ghost use Rattle.std.specs.Prelude.{◌≡◌};
 
+pub mod again;
+
 use super::examples::{MOST, UNTIL};
 use super::requests::{deposit_of, extract_of, list_of, two_of, withdraw_of};
 use super::wanted::{is_listing, is_receipt, is_withdrawn, name_of};
