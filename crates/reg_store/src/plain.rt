@@ -77,6 +77,9 @@ impl Keep for PlainKeep {
 
     ghost dictionary = { dictionary_of };
 
+    // It keeps no bytes of its dictionary.
+    ghost text = { λ _. [] };
+
     ghost limit = { limit_of };
 
     ghost has_failed = { λ _. false };

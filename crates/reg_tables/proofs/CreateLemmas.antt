@@ -21,6 +21,7 @@ use Rattle.reg_tables.specs.Creates.{SurvivesMaking}
 use Rattle.reg_tables.proofs.CreatesLaws.{makes_meta, makes_deposits, makes_lines, makes_steps, makes_withdrawals}
 use Rattle.reg_tables.proofs.CreatesLaws.{all_five, first_two, last_two, filled, new_left}
 use Rattle.reg_tables.proofs.ExamineLemmas.{one_dictionary}
+use Rattle.reg_tables.proofs.StoredText.{text_of_meta}
 
 pub first_ran : (a b c : State) → a.now.schema ≡ no_schema → Ran create_meta [] a b → Ran create_deposits [] b c → Inside (λ _ db. HasFirst db) a c
 first_ran a b c has one two =
@@ -52,7 +53,7 @@ new_list text s it settled = ap (λ (db : Database). deposits_in db.trees) settl
 pub new_keeps : (text : List ℕ) (dictionary : Entries) (s : State) → IsEmptyRegister text s.now → IsTrue s.is_open → s.committed ≡ s.now → IsDictionary text dictionary → ∥ KeepsRegister s dictionary 0 ∥₁
 new_keeps text dictionary s it is_open settled reads =
     let none = new_list text s it settled in
-    let same : it.dictionary ≡ dictionary = one_dictionary text it.dictionary dictionary (subst (λ (t : List ℕ). IsDictionary t it.dictionary) it.bytes it.register.holds.reads) reads in
+    let same : it.dictionary ≡ dictionary = one_dictionary text it.dictionary dictionary (subst (λ (t : List ℕ). IsDictionary t it.dictionary) (sym (text_of_meta 2 it.register.holds.text _ it.register.holds.meta) ∙ it.bytes) it.register.holds.reads) reads in
     let register = subst (λ (d : Entries). IsRegister s.now d []) same it.register in
     let kept : KeepsRegister s dictionary 0 = record {
       is_open = is_open;

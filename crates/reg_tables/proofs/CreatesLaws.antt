@@ -25,6 +25,7 @@ use Rattle.reg_tables.specs.Meaning.{with_meta, with_deposits}
 use Rattle.reg_tables.specs.Rows.{columns_3, columns_5, dictionary_row, format_row, mark_column, rows_under}
 use Rattle.reg_tables.proofs.InsertsLaws.{FillsMeta, meta_rows, same_value, went}
 use Rattle.reg_tables.specs.Register.{IsRegister, tables}
+use Rattle.reg_tables.proofs.StoredText.{text_of_meta}
 use Rattle.reg_tables.specs.Creates.{Made, MakesWithdrawals, HasFirst, HasFour, IsNewRegister, IsEmptyRegister}
 
 makes : (old new : State) (count : ℕ) (from : Schema) (text : List ℕ) (table : Table) (to : Schema)
@@ -151,7 +152,7 @@ new_register text dictionary db it short reads = record {
 pub new_empty : (text : List ℕ) (dictionary : Entries) (db : Database) → length text ≤ READABLE
     → IsDictionary text dictionary → IsNewRegister text db → IsEmptyRegister text db
 new_empty text dictionary db short reads it =
-    record { dictionary = dictionary; register = new_register text dictionary db it short reads; bytes = refl }
+    record { dictionary = dictionary; register = new_register text dictionary db it short reads; bytes = text_of_meta 2 text _ it.meta }
 
 -- so are its trees under the schema of a register
 pub new_left : (text : List ℕ) (dictionary : Entries) (db : Database) → length text ≤ READABLE

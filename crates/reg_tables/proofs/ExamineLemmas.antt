@@ -9,6 +9,7 @@ use Rattle.std.proofs.lemmas.List.{length-map}
 use Rattle.std.proofs.lemmas.List.Sorted.{IsPermutation-sym, IsPermutation-map, Contains-permutation, length_permutation}
 use Rattle.sqlite.specs.Order.{Row, bytes, column}
 use Rattle.sqlite.proofs.Callers.{one_permutation}
+use Rattle.reg_tables.proofs.StoredText.{first_row}
 use Rattle.sqlite.specs.Effect.{Database, IsDatabase}
 use Rattle.ags_rows.specs.declared.TheConstants.{READABLE}
 use Rattle.ags_rows.specs.Contents.{Contents, contents_of}
@@ -270,9 +271,6 @@ one_number number text n row (inr e) is = ap (λ (r : Row). integer_in (column r
 
 pub one_format_in : (number : ℕ) (db : Database) (dictionary : Entries) → HasMeta number db dictionary → HasNoOtherFormat number db
 one_format_in number db dictionary meta n has = one_number number meta.text n has.1.0 (two_rows number meta.text has.1.0 (Contains-permutation _ _ _ (IsPermutation-sym _ _ meta.meta) has.1.1)) has.1.2
-
-first_row : (number : ℕ) (text : List ℕ) → Contains (meta_columns number text) (dictionary_row text)
-first_row number text = (0, omega arith, refl)
 
 its_text : (number : ℕ) (text other : List ℕ) → (dictionary_row text ≡ dictionary_row other) ⊎ (dictionary_row text ≡ format_row number) → text ≡ other
 its_text number text other (inl e) = ap (λ (r : Row). bytes (column r 2)) e

@@ -1,5 +1,5 @@
 -- Lemmas on the definitions of specs/KeepLaws.antt.
-use Rattle.std.specs.Prelude.{◌≡◌, ℕ, ◌+◌, ◌-◌, ◌<◌, Bool, false, List, [], ◌∷◌, ◌++◌, length, Some, slice_get, IsTrue}
+use Rattle.std.specs.Prelude.{◌≡◌, map, ℕ, ◌+◌, ◌-◌, ◌<◌, Bool, false, List, [], ◌∷◌, ◌++◌, length, Some, slice_get, IsTrue}
 use Rattle.std.proofs.Common.{◌≤◌, sym, ap, ◌∙◌, subst, arith, inl, inr, ◌⊎◌}
 use Rattle.std.proofs.Math.Logic.{∥∥₁_elim, ∥∥₁_map}
 use Rattle.std.proofs.Props.{props}
@@ -17,7 +17,9 @@ use Rattle.reg_tables.specs.Tables.{register_schema}
 use Rattle.reg_tables.specs.Inserts.{AddsFile, AddsMark}
 use Rattle.reg_tables.proofs.MethodsLaws.{slice_get_in}
 use Rattle.reg_store.specs.Fit.{kept_rows}
-use Rattle.reg_tables.specs.Register.{deposits_in, LeavesBroken, LeavesList, KeepsRegister, IsRegister, tables}
+use Rattle.sqlite.specs.Order.{Row}
+use Rattle.reg_tables.specs.Rows.{columns_3}
+use Rattle.reg_tables.specs.Register.{deposits_in, text_from, text_in, LeavesBroken, LeavesList, KeepsRegister, IsRegister, tables}
 use Rattle.reg_tables.proofs.RegisterLaws.{IsReady}
 use Rattle.reg_tables.specs.ReadBack.{read_back}
 use Rattle.reg_tables.proofs.ReadBackLaws.{register_mark, register_push}
@@ -50,6 +52,12 @@ same_database a b p q = λ i. record { schema = p i; trees = q i }
 pub settled_of : {s : State} {dictionary : Entries} {count : ℕ} → ∥ KeepsRegister s dictionary count ∥₁
     → s.committed ≡ s.now
 settled_of {s} h = same_database s.committed s.now (schemas_at h) (trees_at h)
+
+-- what is committed has the dictionary's bytes that were committed before
+pub text_committed : (old new : State) {dictionary : Entries} {count : ℕ} → ∥ KeepsRegister old dictionary count ∥₁
+    → new.committed ≡ new.now → new.now.trees 0 ≡ old.now.trees 0 → text_in new.committed.trees ≡ text_in old.committed.trees
+text_committed old new kept settled meta =
+    ap (λ (db : Database). text_in db.trees) settled ∙ ap (λ (rows : List Row). text_from (map columns_3 rows)) meta ∙ sym (ap (λ (db : Database). text_in db.trees) (settled_of kept))
 
 keeps_equal : {old new : State} {dictionary : Entries} {count : ℕ} → KeepsRegister old dictionary count
     → IsTrue new.is_open → new.now ≡ old.now → new.committed ≡ old.committed → KeepsRegister new dictionary count

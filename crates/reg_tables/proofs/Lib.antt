@@ -1,6 +1,7 @@
 pub mod Texts
 pub mod Known
 pub mod TablesLemmas
+pub mod StoredText
 pub mod AdoptsLaws
 pub mod AnswersLaws
 pub mod CreatesLaws

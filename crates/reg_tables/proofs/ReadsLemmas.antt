@@ -7,18 +7,19 @@ use Rattle.reg_store.specs.Keep.{Reads}
 use Rattle.reg_tables.proofs.KeepLaws.{crash_same, whole_same}
 use Rattle.reg_tables.specs.Quiet.{IsStill}
 use Rattle.reg_tables.proofs.QuietLaws.{clean_before}
-use Rattle.reg_tables.specs.Register.{deposits_in, LeavesBroken, LeavesList}
+use Rattle.reg_tables.specs.Register.{deposits_in, text_in, LeavesBroken, LeavesList}
 
 module _ {K : Type 0} (held : K → State) (dictionary : K → Entries) (limit : ℕ) (has_failed : K → Bool) where
   -- where the connection is still, the store was only read
   pub reads_still : (old new : K) (failed : Bool) → IsStill (held old) (held new) failed → dictionary new ≡ dictionary old → has_failed new ≡ failed
-      → Reads (λ k. deposits_in (held k).committed.trees) dictionary (λ _. limit) has_failed (λ k. LeavesList (held k).may_leave (dictionary k)) (λ k. LeavesBroken (held k).may_leave (dictionary k)) (λ k. HasCleanDisk (held k)) old new failed
+      → Reads (λ k. deposits_in (held k).committed.trees) dictionary (λ k. text_in (held k).committed.trees) (λ _. limit) has_failed (λ k. LeavesList (held k).may_leave (dictionary k)) (λ k. LeavesBroken (held k).may_leave (dictionary k)) (λ k. HasCleanDisk (held k)) old new failed
   reads_still old new failed still same failing = record {
     sound = λ clean. clean_before (held old) (held new) still.survives clean;
     same_dictionary = same;
     same_limit = refl;
     failing = failing;
     same = λ clean well. ap (λ (db : Database). deposits_in db.trees) (still.same clean well).1;
+    same_text = λ clean well. ap (λ (db : Database). text_in db.trees) (still.same clean well).1;
     crash = λ clean list left. crash_same (held old) (held new) still.survives clean list (subst (λ (d : Entries). LeavesList (held new).may_leave d list) same left);
     whole = λ clean left. whole_same (held old) (held new) still.survives clean (subst (λ (d : Entries). LeavesBroken (held new).may_leave d) same left);
   }

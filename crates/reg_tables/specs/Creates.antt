@@ -10,7 +10,7 @@ use Rattle.ags_dict.specs.Entries.{Entries}
 use Rattle.reg_tables.specs.Tables.{no_schema, first_schema, register_schema}
 use Rattle.reg_tables.specs.Meaning.{with_deposits}
 use Rattle.reg_tables.specs.Rows.{columns_3}
-use Rattle.reg_tables.specs.Register.{deposits_in, meta_columns, IsRegister, tables}
+use Rattle.reg_tables.specs.Register.{deposits_in, meta_columns, text_in, IsRegister, tables}
 
 -- the text makes this table under this schema: the schema with it, its tree empty, the trees of the other tables kept
 pub record Made (from to : Schema) (old new : Database) : Type 0 where
@@ -50,7 +50,7 @@ pub record IsNewRegister (text : List ℕ) (db : Database) : Type 0 where
 pub record IsEmptyRegister (text : List ℕ) (db : Database) : Type 0 where
   pub dictionary : Entries
   pub register : IsRegister db dictionary []
-  pub bytes : register.holds.text ≡ text
+  pub bytes : text_in db.trees ≡ text
 
 -- On a clean disk the connection shows a register of no deposits, whose dictionary is these bytes.
 abbrev pub ShowsEmptyRegister : List ℕ → State → Type 0

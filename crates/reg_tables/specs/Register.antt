@@ -1,6 +1,6 @@
 -- A register in tables, and what a connection keeps.
 use Rattle.std.specs.Prelude.{◌≡◌, ℕ, zero, suc, ℤ, ◌+◌, ◌≤◌, pos, Bool, true, false, find, unwrap_or, List, [], ◌∷◌}
-use Rattle.std.specs.Prelude.{map, length, IsTrue, Option, Some, None, slice_get}
+use Rattle.std.specs.Prelude.{map, length, IsTrue, Option, Some, None, slice_get, codes, if◌then◌else◌}
 use Rattle.std.specs.List.{AllByRecursion, AllZip, list_any}
 use Rattle.std.specs.Ordering.{is_eq}
 use Rattle.std.specs.List.Sorted.{IsPermutation}
@@ -99,6 +99,19 @@ file_lines (Some file) = placed_rows 0 (kept_rows file.groups)
 abbrev pub file_steps : Option CheckedFile → List Row
 file_steps None = []
 file_steps (Some file) = map step_pair file.graph.steps
+
+-- the row of meta has the dictionary
+abbrev pub has_dictionary : Row → Bool
+has_dictionary c = is_eq (value_cmp (column c 0) (Words (codes "dictionary")))
+
+-- the body of the first such row
+abbrev pub text_from : List Row → List ℕ
+text_from [] = []
+text_from (c ∷ more) = if has_dictionary c then bytes (column c 2) else text_from more
+
+-- the bytes of the dictionary that the table `meta` holds
+abbrev pub text_in : Trees → List ℕ
+text_in trees = text_from (map columns_3 (trees 0))
 
 -- the rows of meta by their columns, ordered by name
 abbrev pub meta_columns : ℕ → List ℕ → List Row

@@ -6,7 +6,7 @@ ghost use Rattle.reg_tables.specs.KeepLaws.{few_at, fit_at, remains_at, settled_
 ghost use Rattle.sqlite.specs.State.{HasCleanDisk};
 ghost use Rattle.sqlite.specs.Held.{state};
 ghost use Rattle.reg_tables.specs.Memory.{Agrees};
-ghost use Rattle.reg_tables.specs.Register.{deposits_in, KeepsIfClean, KeepsRegister, LeavesBroken, LeavesList};
+ghost use Rattle.reg_tables.specs.Register.{deposits_in, KeepsIfClean, KeepsRegister, LeavesBroken, LeavesList, text_in};
 
 use crate::memory::Memory;
 use crate::memory::digests::digest_of;
@@ -46,6 +46,8 @@ impl<S: Alter> Keep for SqlKeep<S> {
     ghost deposits = { λ k. deposits_in (state S.Store k.connection).committed.trees };
 
     ghost dictionary = { λ k. k.dictionary };
+
+    ghost text = { λ k. text_in (state S.Store k.connection).committed.trees };
 
     ghost limit = { λ _. 999999 };
 

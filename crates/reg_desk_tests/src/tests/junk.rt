@@ -47,6 +47,8 @@ impl Keep for Junked {
 
     ghost dictionary = { λ k. dictionary_of k.keep };
 
+    ghost text = { λ _. [] };
+
     ghost limit = { λ k. limit_of k.keep };
 
     ghost has_failed = { λ _. false };

@@ -48,6 +48,8 @@ impl Keep for Refusing {
 
     ghost dictionary = { λ k. dictionary_of k.keep };
 
+    ghost text = { λ _. [] };
+
     ghost limit = { λ k. limit_of k.keep };
 
     ghost has_failed = { λ k. k.failed };

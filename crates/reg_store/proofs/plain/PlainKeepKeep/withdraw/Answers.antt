@@ -24,6 +24,7 @@ returns-clause-leaves c =
       failing = refl;
       added = λ _. next;
       refused = λ _ _. tt;
+      same_text = λ _ _. refl;
       crash = λ _ list left. inr (left ∙ next);
       whole = λ _ broken. broken;
     }

@@ -11,11 +11,11 @@ use Rattle.reg_tables.proofs.QuietLaws.{clean_before}
 use Rattle.reg_tables.specs.Rows.{deposit_from}
 use Rattle.reg_tables.specs.Inserts.{AddsFile}
 use Rattle.reg_tables.specs.Memory.{Agrees, IsComing}
-use Rattle.reg_tables.specs.Register.{KeepsRegister, deposits_in}
+use Rattle.reg_tables.specs.Register.{KeepsRegister, deposits_in, text_in}
 use Rattle.reg_tables.proofs.RegisterLaws.{IsReady}
 use Rattle.reg_tables.specs.KeepLaws.{ChangesOf, PutsOf}
 use Rattle.reg_tables.proofs.KeepLaws.{HoldsNext, BecomesNext, counted_at, crash_at, idle_at, keeps_same, next_at, put_next}
-use Rattle.reg_tables.proofs.KeepLaws.{schema_at, settled_of, whole_next}
+use Rattle.reg_tables.proofs.KeepLaws.{schema_at, settled_of, text_committed, whole_next}
 use Rattle.reg_tables.proofs.AddsLemmas.{opened_at}
 use Rattle.reg_tables.proofs.keep.SqlKeepKeep.add.Given.{Over}
 use Rattle.reg_tables.proofs.keep.SqlKeepKeep.add.Goals as goal
@@ -137,6 +137,7 @@ returns-in-Ok-added g c =
         failing = c.requires.working;
         added = λ clean. (more g base clean).list;
         refused = λ clean well. tt;
+        same_text = λ clean well. text_committed old new (keep.kept c.requires.working (before clean)) (c.in-Ok-added.ensures.settled clean) (c.in-Ok-added.ensures.put clean).change.meta;
         crash = λ clean. crash_at {old = old} {new = new} (Change g base) (next g base) (keep.kept c.requires.working (before clean)) (becomes g base clean) (crash g base) clean;
         whole = λ clean. whole_next {old = old} {new = new} (Change g base) (next g base) (keep.kept c.requires.working (before clean)) (becomes g base clean) (crash g base) clean;
       };
@@ -165,6 +166,7 @@ returns-in-Err-clause-leaves g c =
       failing = c.is_store_error-self.ensures;
       added = λ clean. tt;
       refused = λ clean well. ap (λ (db : Database). deposits_in db.trees) (c.in-Err.ensures.undone clean well).1;
+      same_text = λ clean well. ap (λ (db : Database). text_in db.trees) (c.in-Err.ensures.undone clean well).1;
       crash = λ clean. crash_at {old = old} {new = new} Change (list ++ unmarked d ∷ []) (keep.kept c.requires.working (before clean)) (becomes clean) crash clean;
       whole = λ clean. whole_next {old = old} {new = new} Change (list ++ unmarked d ∷ []) (keep.kept c.requires.working (before clean)) (becomes clean) crash clean;
     }

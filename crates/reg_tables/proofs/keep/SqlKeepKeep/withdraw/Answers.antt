@@ -1,4 +1,4 @@
-use Rattle.std.proofs.Common.{◌≡◌, List, false, length, refl, sym, ap, subst, ◌∙◌}
+use Rattle.std.proofs.Common.{◌≡◌, ℕ, arith, List, false, length, refl, sym, ap, subst, ◌∙◌}
 use Rattle.sqlite.specs.Effect.{Database}
 use Rattle.sqlite.specs.State.{HasCleanDisk}
 use Rattle.sqlite.specs.Held.{state}
@@ -6,11 +6,11 @@ use Rattle.reg_store.specs.Deposit.{Deposit, marked}
 use Rattle.reg_store.specs.Keep.{is_store}
 use Rattle.reg_tables.specs.Inserts.{AddsMark}
 use Rattle.reg_tables.proofs.KeepLaws.{HoldsNext, BecomesNext, counted_at, crash_at, keeps_same, mark_next, next_at}
-use Rattle.reg_tables.proofs.KeepLaws.{schema_at, settled_of, whole_next}
+use Rattle.reg_tables.proofs.KeepLaws.{schema_at, settled_of, text_committed, whole_next}
 use Rattle.reg_tables.proofs.MarksLaws.{length_marked}
 use Rattle.reg_tables.specs.Memory.{Agrees}
 use Rattle.reg_tables.proofs.QuietLaws.{clean_before}
-use Rattle.reg_tables.specs.Register.{KeepsRegister, deposits_in}
+use Rattle.reg_tables.specs.Register.{KeepsRegister, deposits_in, text_in}
 use Rattle.reg_tables.proofs.keep.SqlKeepKeep.withdraw.Given.{Over}
 use Rattle.reg_tables.proofs.keep.SqlKeepKeep.withdraw.Goals.{After-mark}
 use Rattle.reg_tables.proofs.keep.SqlKeepKeep.withdraw.Goals as goal
@@ -94,6 +94,7 @@ returns-in-Ok-clause-leaves g c =
       failing = c.requires.working;
       added = λ clean. (more g c.before clean).list;
       refused = λ clean well. tt;
+      same_text = λ clean well. text_committed old new (keep.kept c.requires.working (before clean)) (c.in-Ok.ensures.settled clean) ((c.in-Ok.ensures.made clean).change.others.0 (λ e. absurd (let no : ◌≡◌ {A = ℕ} 0 8 = e in omega arith)));
       crash = λ clean. crash_at {old = old} {new = new} (AddsMark c.args.n) next (keep.kept c.requires.working (before clean)) (becomes g c.before clean) c.change_tables.ensures.crash clean;
       whole = λ clean. whole_next {old = old} {new = new} (AddsMark c.args.n) next (keep.kept c.requires.working (before clean)) (becomes g c.before clean) c.change_tables.ensures.crash clean;
     }
@@ -113,6 +114,7 @@ returns-in-Err-clause-leaves g c =
       failing = c.is_store_error-self.ensures;
       added = λ clean. tt;
       refused = λ clean well. ap (λ (db : Database). deposits_in db.trees) (c.in-Err.ensures.undone clean well).1;
+      same_text = λ clean well. ap (λ (db : Database). text_in db.trees) (c.in-Err.ensures.undone clean well).1;
       crash = λ clean. crash_at {old = old} {new = new} (AddsMark c.args.n) next (keep.kept c.requires.working (before clean)) (becomes clean) c.change_tables.ensures.crash clean;
       whole = λ clean. whole_next {old = old} {new = new} (AddsMark c.args.n) next (keep.kept c.requires.working (before clean)) (becomes clean) c.change_tables.ensures.crash clean;
     }
