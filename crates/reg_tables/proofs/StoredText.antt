@@ -24,11 +24,11 @@ first_row number text = (0, omega arith, refl)
 first_text : (text : List ℕ) (rows : List Row) → AllByRecursion (HasText text) rows → Contains rows (dictionary_row text) → text_from rows ≡ text
 first_text text [] each (k, low, is) = absurd (omega (arith, low))
 first_text text (c ∷ more) each (zero, low, is) = subst (λ (row : Row). text_from (row ∷ more) ≡ text) (sym is) refl
-first_text text (c ∷ more) each (suc k, low, is) = go (has_dictionary c) refl
+first_text text (c ∷ more) each (suc k, low, is) = go (has_dictionary c) refl (first_text text more each.1 (k, omega (arith, low), is))
   where
-    go : (b : Bool) → has_dictionary c ≡ b → (if b then bytes (column c 2) else text_from more) ≡ text
-    go true e = each.0 e
-    go false e = first_text text more each.1 (k, omega (arith, low), is)
+    go : (b : Bool) → has_dictionary c ≡ b → text_from more ≡ text → (if b then bytes (column c 2) else text_from more) ≡ text
+    go true e rest = each.0 e
+    go false e rest = rest
 
 -- the bytes that are read from the rows are those that the rows were made of
 pub text_of_meta : (number : ℕ) (text : List ℕ) (rows : List Row) → IsPermutation (meta_columns number text) rows → text_from rows ≡ text

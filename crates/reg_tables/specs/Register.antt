@@ -3,6 +3,7 @@ use Rattle.std.specs.Prelude.{◌≡◌, ℕ, zero, suc, ℤ, ◌+◌, ◌≤◌
 use Rattle.std.specs.Prelude.{map, length, IsTrue, Option, Some, None, slice_get, codes, if◌then◌else◌}
 use Rattle.std.specs.List.{AllByRecursion, AllZip, list_any}
 use Rattle.std.specs.Ordering.{is_eq}
+use Rattle.std.specs.Str.{bytes_eq}
 use Rattle.std.specs.List.Sorted.{IsPermutation}
 use Rattle.sqlite.specs.declared.types.Value.{Value}
 use Rattle.sqlite.specs.declared.types.Value.TheVariants.{Int, Text as Words, Blob as Bytes}
@@ -102,7 +103,7 @@ file_steps (Some file) = map step_pair file.graph.steps
 
 -- the row of meta has the dictionary
 abbrev pub has_dictionary : Row → Bool
-has_dictionary c = is_eq (value_cmp (column c 0) (Words (codes "dictionary")))
+has_dictionary c = bytes_eq (bytes (column c 0)) (codes "dictionary")
 
 -- the body of the first such row
 abbrev pub text_from : List Row → List ℕ
