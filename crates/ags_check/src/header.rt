@@ -38,7 +38,7 @@ pub(crate) fn header_findings(
     Ok(findings.in_order())
 }
 
-/// The same, of these groups.
+/// What these groups break, and what the file lacks.
 fn note_header_groups(
     alloc: Global,
     given: &Dictionary,
@@ -105,7 +105,7 @@ fn note_header_rows(
     note_only_rows(group, findings)
 }
 
-/// The same, where the dictionary has an entry for the group.
+/// What the HEADING row of a group breaks, if the dictionary has an entry for the group.
 fn note_known_heading_row(
     alloc: Global,
     given: &Dictionary,

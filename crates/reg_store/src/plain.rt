@@ -77,7 +77,7 @@ impl Keep for PlainKeep {
 
     ghost dictionary = { dictionary_of };
 
-    // It keeps no bytes of its dictionary.
+    // It does not keep the bytes of its dictionary.
     ghost text = { λ _. [] };
 
     ghost limit = { limit_of };

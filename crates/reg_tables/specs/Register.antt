@@ -101,7 +101,9 @@ abbrev pub file_steps : Option CheckedFile → List Row
 file_steps None = []
 file_steps (Some file) = map step_pair file.graph.steps
 
--- the row of meta has the dictionary
+-- ---- the table meta
+
+-- the row has the dictionary
 abbrev pub has_dictionary : Row → Bool
 has_dictionary c = bytes_eq (bytes (column c 0)) (codes "dictionary")
 

@@ -30,8 +30,8 @@ fn is_as_before<K: Keep>(alloc: Global, desk: &mut Desk<K>, list: &Request, list
     fault_of(&listing, is_listed(&listing, listed)) <= 1
 }
 
-/// Asks a request until it is answered otherwise than out of memory: whether that answer is right, and nothing had
-/// changed until then.
+/// Asks a request until it is answered otherwise than out of memory: whether that answer is right, and each list until
+/// then, if there was memory for it, was as before.
 fn asks_again<K: Keep>(
     alloc: Global,
     desk: &mut Desk<K>,
