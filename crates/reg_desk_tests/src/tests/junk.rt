@@ -1,6 +1,6 @@
 //! A store that is not sound: where one line of a file is none, no extract shows it.
 
-ghost use Rattle.std.specs.Prelude.{◌≡◌, ◌<◌, ◌≤◌, false, length, IsTrue, refl};
+ghost use Rattle.std.specs.Prelude.{◌≡◌, ◌<◌, ◌≤◌, [], false, length, IsTrue, refl};
 ghost use Rattle.reg_store.specs.Plain.{deposits_of};
 
 use super::examples::MOST;

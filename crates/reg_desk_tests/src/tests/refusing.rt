@@ -1,6 +1,6 @@
 //! A store in memory that fails.
 
-ghost use Rattle.std.specs.Prelude.{◌≡◌, false, ⊤, refl};
+ghost use Rattle.std.specs.Prelude.{◌≡◌, [], false, ⊤, refl};
 
 use ags_check::Checked;
 use ags_dict::Dictionary;
