@@ -19,7 +19,7 @@ use Rattle.reg_tables.proofs.MethodsLaws.{slice_get_in}
 use Rattle.reg_store.specs.Fit.{kept_rows}
 use Rattle.sqlite.specs.Order.{Row}
 use Rattle.reg_tables.specs.Rows.{columns_3}
-use Rattle.reg_tables.specs.Register.{deposits_in, text_from, text_in, LeavesBroken, LeavesList, KeepsRegister, IsRegister, tables}
+use Rattle.reg_tables.specs.Register.{deposits_in, dictionary_body, text_in, LeavesBroken, LeavesList, KeepsRegister, IsRegister, tables}
 use Rattle.reg_tables.proofs.RegisterLaws.{IsReady}
 use Rattle.reg_tables.specs.ReadBack.{read_back}
 use Rattle.reg_tables.proofs.ReadBackLaws.{register_mark, register_push}
@@ -57,7 +57,7 @@ settled_of {s} h = same_database s.committed s.now (schemas_at h) (trees_at h)
 pub text_committed : (old new : State) {dictionary : Entries} {count : ℕ} → ∥ KeepsRegister old dictionary count ∥₁
     → new.committed ≡ new.now → new.now.trees 0 ≡ old.now.trees 0 → text_in new.committed.trees ≡ text_in old.committed.trees
 text_committed old new kept settled meta =
-    ap (λ (db : Database). text_in db.trees) settled ∙ ap (λ (rows : List Row). text_from (map columns_3 rows)) meta ∙ sym (ap (λ (db : Database). text_in db.trees) (settled_of kept))
+    ap (λ (db : Database). text_in db.trees) settled ∙ ap (λ (rows : List Row). dictionary_body (map columns_3 rows)) meta ∙ sym (ap (λ (db : Database). text_in db.trees) (settled_of kept))
 
 keeps_equal : {old new : State} {dictionary : Entries} {count : ℕ} → KeepsRegister old dictionary count
     → IsTrue new.is_open → new.now ≡ old.now → new.committed ≡ old.committed → KeepsRegister new dictionary count

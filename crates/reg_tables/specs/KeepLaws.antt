@@ -1,4 +1,4 @@
--- The laws of the store.
+-- The laws of the store. No promise is made of these words.
 use Rattle.std.specs.Prelude.{◌≡◌, ℕ, List, [], ◌∷◌, length, All, IsTrue}
 use Rattle.std.proofs.Common.{◌≤◌, zero, suc, sym, ap, ◌∙◌, subst, arith}
 use Rattle.std.proofs.Math.Logic.{∥∥₁_elim, ∥∥₁_map}

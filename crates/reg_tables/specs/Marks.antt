@@ -1,4 +1,4 @@
--- The marks of deposits as rows: they are read back, and there may be one more.
+-- The marks of deposits as rows: they are read back, and there may be one more. No promise is made of these words.
 use Rattle.std.proofs.Common.{◌≡◌, ℕ, zero, suc, ◌+◌, ◌<◌, List, [], ◌∷◌, length, Bool, true, false, Some}
 use Rattle.std.proofs.Common.{slice_get, refl, sym, ap, subst, ◌∙◌, arith}
 use Rattle.std.specs.List.{list_any}

@@ -1,4 +1,4 @@
--- What the tables of a register say of its list.
+-- What the tables of a register say of its list. No promise is made of these words.
 use Rattle.std.proofs.Common.{◌≡◌, List}
 use Rattle.sqlite.specs.Effect.{Database}
 use Rattle.ags_dict.specs.Entries.{Entries}

@@ -108,13 +108,13 @@ abbrev pub has_dictionary : Row → Bool
 has_dictionary c = bytes_eq (bytes (column c 0)) (codes "dictionary")
 
 -- the body of the first such row
-abbrev pub text_from : List Row → List ℕ
-text_from [] = []
-text_from (c ∷ more) = if has_dictionary c then bytes (column c 2) else text_from more
+abbrev pub dictionary_body : List Row → List ℕ
+dictionary_body [] = []
+dictionary_body (c ∷ more) = if has_dictionary c then bytes (column c 2) else dictionary_body more
 
 -- the bytes of the dictionary that the table `meta` holds
 abbrev pub text_in : Trees → List ℕ
-text_in trees = text_from (map columns_3 (trees 0))
+text_in trees = dictionary_body (map columns_3 (trees 0))
 
 -- the rows of meta by their columns, ordered by name
 abbrev pub meta_columns : ℕ → List ℕ → List Row

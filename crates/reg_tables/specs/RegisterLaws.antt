@@ -1,4 +1,4 @@
--- What was sent is read back, and one deposit more is held.
+-- What was sent is read back, and one deposit more is held. No promise is made of these words.
 use Rattle.std.proofs.Common.{◌≡◌, ℕ, suc, ◌+◌, ◌<◌, List, [], ◌∷◌, ◌++◌, filter, unwrap_or, append_assoc, length}
 use Rattle.std.proofs.Common.{length-append, slice_get, refl, sym, ap, subst, ◌∙◌, arith}
 use Rattle.std.specs.List.Sorted.{IsPermutation}

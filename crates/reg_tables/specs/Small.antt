@@ -1,4 +1,4 @@
--- The rows that are so few, and so short, that they may be in memory.
+-- The rows that are so few, and so short, that they may be in memory. No promise is made of these words.
 use Rattle.std.specs.Prelude.{ℕ, ◌+◌, ◌≤◌, List, [], ◌∷◌, length}
 use Rattle.reg_store.specs.declared.keep.KeptRow.{KeptRow}
 

@@ -82,7 +82,8 @@ impl<S: Alter> SqlKeep<S> {
 }
 
 impl<F: Start> SqlKeep<FileStore<FileFrom<F>>> {
-    /// The register that the database at a path holds, where `F` stands for what its files held.
+    /// The register that the database at a path holds, where `F` stands for what its files held. `Unknown` says nothing
+    /// of a file that is not empty.
     ///
     /// A file that cannot be opened is `Store`, or `NoMemory`; every other refusal comes with the connection that was
     /// opened. `progress` takes note of the deposits that are checked; no clause says so.

@@ -469,16 +469,12 @@ fn has_all(letters: &str, task: Task) -> bool {
     true
 }
 
-/// How many runs stopped: each but the last, which ended.
-fn stops(letters: &str) -> usize {
-    letters.len().saturating_sub(1)
-}
-
-/// How many runs stopped. It fails with their letters where none stopped in some stage, or none ended.
+/// How many runs stopped: each but the last, which ended. It fails with their letters where none stopped in some stage,
+/// or none ended.
 fn stops_at(alloc: Global, side: Side, task: Task) -> Result<usize, Fail> {
     let letters = letters(alloc, side, task)?;
     if has_all(letters.as_str(), task) {
-        Ok(stops(letters.as_str()))
+        Ok(letters.len().saturating_sub(1))
     } else {
         Err(Fail::new(letters))
     }

@@ -151,7 +151,7 @@ impl SqlKeep<MemStore> {
 
 impl<F: Start> SqlKeep<FileStore<FileFrom<F>>> {
     /// An empty register in the database at a path that had no table, index or view, where `F` stands for what its
-    /// files held.
+    /// files held. `Unknown` says nothing of a file that is not empty.
     ///
     /// `NotEmpty` and `Store` come only where the bytes are a dictionary. `NotEmpty` comes with the connection that was
     /// opened. A file that cannot be opened is `Store`, or `NoMemory`; no clause says so.

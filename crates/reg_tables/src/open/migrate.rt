@@ -73,7 +73,7 @@ impl<S: Alter> SqlKeep<S> {
 
 impl<F: Start> SqlKeep<FileStore<FileFrom<F>>> {
     /// The register of format 1 that the database at a path holds, as one of format 2. `F` stands for what its files
-    /// held.
+    /// held. `Unknown` says nothing of a file that is not empty.
     ///
     /// A file that cannot be opened is `Store`, or `NoMemory`; every other refusal comes with the connection that was
     /// opened. `progress` takes note of the deposits that are checked; no clause says so.
