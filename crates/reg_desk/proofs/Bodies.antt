@@ -1,7 +1,7 @@
 -- Bodies that a caller sends: why they are refused, and what a check is answered.
-use Rattle.std.proofs.Common.{◌≡◌, ◌≢◌, ℕ, ◌<◌, ◌≤◌, Bool, true, false, List, [], ◌∷◌, refl, sym, subst, inl, inr, ◌⊎◌, arith}
+use Rattle.std.proofs.Common.{◌≡◌, ◌≢◌, ℕ, ◌<◌, ◌≤◌, Bool, true, false, List, [], ◌∷◌, refl, sym, subst, inl, inr, ◌⊎◌}
 use Rattle.std.specs.Prelude.{ℤ, nat_lt, length, MatchBool}
-use Rattle.std.proofs.lemmas.Bool.{true≢false, cases_Bool, ltb-true, lt-ltb}
+use Rattle.std.proofs.lemmas.Bool.{MatchBool-at_false, le-ltb, lt-ltb}
 use Rattle.ags_rows.specs.declared.finding.Finding.{Finding}
 use Rattle.ags_rows.specs.declared.TheConstants.{LIMIT}
 use Rattle.ags_dict.specs.Entries.{Entries}
@@ -16,25 +16,16 @@ use Rattle.reg_policy.specs.declared.subject.Verb.TheVariants as verbs
 use Rattle.reg_store.specs.declared.keep.Keep.{Ghosts}
 use Rattle.reg_desk.specs.Asked.{Asked, check}
 use Rattle.reg_desk.specs.declared.answer.Answer.{Answer}
-use Rattle.reg_desk.specs.declared.answer.Answer.TheVariants.{Receipt, Clean, Findings, Listing, Text, Denied, Unknown, TooLarge, Full, NoMemory, StoreFailed, Withdrawn}
+use Rattle.reg_desk.specs.declared.answer.Answer.TheVariants.{Clean, Findings, Denied, TooLarge, NoMemory}
 use Rattle.reg_desk.specs.Machine.{Terms, decided, OrDenied, OrFound, OrRefused, IsReply, IsNext}
 use Rattle.reg_desk.specs.Serving.{NeedsMemory, IsRefusal, terms_at, Serves}
 use Rattle.reg_desk.proofs.Serves.{needs_of, replies_at_once, memory_at_once, permitted_reply, denied_reply, permit_stands}
 
 pub where_true : (t : Bool) (A B : Type 0) → t ≡ true → A → MatchBool t A B
-where_true true A B e a = a
-where_true false A B e a = absurd (true≢false (sym e))
+where_true t A B e a = subst (λ (b : Bool). MatchBool b A B) (sym e) a
 
 pub where_false : (t : Bool) (A B : Type 0) → t ≡ false → B → MatchBool t A B
-where_false true A B e b = absurd (true≢false e)
-where_false false A B e b = b
-
-pub where_else : (t : Bool) (A B : Type 0) → t ≡ false → MatchBool t A B → B
-where_else true A B e h = absurd (true≢false e)
-where_else false A B e h = h
-
-ltb_of : (m n : ℕ) → n ≤ m → nat_lt m n ≡ false
-ltb_of m n le = elim (cases_Bool (nat_lt m n)) [ inl e ↦ absurd (omega (arith, ltb-true m n e, le)) | inr e ↦ e ]
+where_false t A B e b = subst (λ (x : Bool). MatchBool x A B) (sym e) b
 
 -- ---- what a body is refused for
 
@@ -46,11 +37,11 @@ found_some [] Stands some = absurd (some refl)
 found_some (f ∷ found) Stands some = refl
 
 refused_found : (terms : Terms) (bytes : List ℕ) (Stands : Answer → Type 0) (found : List Finding) → length bytes ≤ LIMIT → AreFindings terms.dictionary bytes found → found ≢ [] → OrRefused terms bytes Stands (Findings found)
-refused_found terms bytes Stands found le are some = where_false (nat_lt LIMIT (length bytes)) _ _ (ltb_of LIMIT (length bytes) le) (found, are, found_some found Stands some)
+refused_found terms bytes Stands found le are some = where_false (nat_lt LIMIT (length bytes)) _ _ (le-ltb LIMIT (length bytes) le) (found, are, found_some found Stands some)
 
 -- what holds where it is not refused
 pub refused_none : (terms : Terms) (bytes : List ℕ) (Stands : Answer → Type 0) (answer : Answer) → length bytes ≤ LIMIT → AreFindings terms.dictionary bytes [] → Stands answer → OrRefused terms bytes Stands answer
-refused_none terms bytes Stands answer le are h = where_false (nat_lt LIMIT (length bytes)) _ _ (ltb_of LIMIT (length bytes) le) ([], are, h)
+refused_none terms bytes Stands answer le are h = where_false (nat_lt LIMIT (length bytes)) _ _ (le-ltb LIMIT (length bytes) le) ([], are, h)
 
 found_needs : (found : List Finding) (Stands : Answer → Type 0) → NeedsMemory Stands → NeedsMemory (OrFound found Stands)
 found_needs [] Stands needs = needs
@@ -61,7 +52,7 @@ small_found : (d : Decision) (k : ℕ) (terms : Terms) (bytes : List ℕ) (Stand
     → OrDenied d (OrRefused terms bytes Stands) reply → (found : List Finding) × OrFound found Stands reply
 small_found d k terms bytes Stands reply permit le is =
     let h = permit_stands d k (OrRefused terms bytes Stands) reply permit is in
-    let found = where_else (nat_lt LIMIT (length bytes)) _ _ (ltb_of LIMIT (length bytes) le) h in
+    let found = MatchBool-at_false _ _ (le-ltb LIMIT (length bytes) le) h in
     (found.0, found.2)
 
 -- a body that is not too large needs memory
@@ -82,25 +73,16 @@ pub refusal_serves : {K : Type 0} (keep : Ghosts K) (rules : List Rule) (request
 refusal_serves keep rules request old TooLarge d k bytes Stands works permit refusal needs to from next =
     let terms = terms_at keep rules old in
     let is = to TooLarge (permitted_reply d k (OrRefused terms bytes Stands) TooLarge permit (refused_large terms bytes Stands refusal)) in
-    replies_at_once keep rules request old TooLarge works refl is (next TooLarge refusal is)
+    replies_at_once keep rules request old TooLarge works tt is (next TooLarge refusal is)
 refusal_serves keep rules request old (Findings found) d k bytes Stands works permit refusal needs to from next =
     let terms = terms_at keep rules old in
     let is = to (Findings found) (permitted_reply d k (OrRefused terms bytes Stands) (Findings found) permit (refused_found terms bytes Stands found refusal.0 refusal.1 refusal.2)) in
-    replies_at_once keep rules request old (Findings found) works refl is (next (Findings found) refusal is)
+    replies_at_once keep rules request old (Findings found) works tt is (next (Findings found) refusal is)
 refusal_serves keep rules request old NoMemory d k bytes Stands works permit refusal needs to from next =
     let terms = terms_at keep rules old in
     memory_at_once keep rules request old works
     (needs_of (OrDenied d (OrRefused terms bytes Stands)) (IsReply terms (keep.deposits old) request) from (small_needs d k terms bytes Stands permit refusal needs))
-refusal_serves keep rules request old (Receipt n e) d k bytes Stands works permit refusal needs to from next = absurd refusal
-refusal_serves keep rules request old Clean d k bytes Stands works permit refusal needs to from next = absurd refusal
-refusal_serves keep rules request old (Listing l) d k bytes Stands works permit refusal needs to from next = absurd refusal
-refusal_serves keep rules request old (Text t) d k bytes Stands works permit refusal needs to from next = absurd refusal
-refusal_serves keep rules request old (Denied n) d k bytes Stands works permit refusal needs to from next = absurd refusal
-refusal_serves keep rules request old Unknown d k bytes Stands works permit refusal needs to from next = absurd refusal
-refusal_serves keep rules request old Full d k bytes Stands works permit refusal needs to from next = absurd refusal
-refusal_serves keep rules request old (Withdrawn n) d k bytes Stands works permit refusal needs to from next =
-    absurd refusal
-refusal_serves keep rules request old StoreFailed d k bytes Stands works permit refusal needs to from next = absurd refusal
+refusal_serves keep rules request old answer d k bytes Stands works permit refusal needs to from next = absurd refusal
 
 -- what a check ends with is a refusal of the body
 pub refusal_is : (given : Entries) (bytes : List ℕ) (error : CheckError) (answer : Answer) → length bytes ≤ LIMIT → ((found : List Finding) → error ≡ errors.Findings found → AreFindings given bytes found × (found ≢ []))
@@ -116,32 +98,32 @@ IsCleanAnswer r = r ≡ Clean
 clean_needs : NeedsMemory IsCleanAnswer
 clean_needs = (λ n e. cc, λ e. cc)
 
-pub check_denied : {K : Type 0} (keep : Ghosts K) (rules : List Rule) (caller : Caller) (project bytes : List ℕ) (day : ℤ) (old : K) (m : ℕ) → keep.has_failed old ≡ false
-    → decided (terms_at keep rules old) caller project verbs.Check day ≡ Deny m → Serves keep rules (check caller project bytes day) old old (Denied m)
-check_denied keep rules caller project bytes day old m works deny =
-    let terms = terms_at keep rules old in
-    replies_at_once keep rules (check caller project bytes day) old (Denied m) works refl
-    (denied_reply (decided terms caller project verbs.Check day) m (OrRefused terms bytes IsCleanAnswer) deny) (inr (λ list change. change, refl))
+module _ {K : Type 0} (keep : Ghosts K) (rules : List Rule) (caller : Caller) (project bytes : List ℕ) (day : ℤ) (old : K) where
+  abbrev request : Asked
+  request = check caller project bytes day
 
-check_refused : {K : Type 0} (keep : Ghosts K) (rules : List Rule) (caller : Caller) (project bytes : List ℕ) (day : ℤ) (old : K) (answer : Answer) (k : ℕ) → keep.has_failed old ≡ false
-    → decided (terms_at keep rules old) caller project verbs.Check day ≡ Permit k → IsRefusal (keep.dictionary old) bytes answer → Serves keep rules (check caller project bytes day) old old answer
-check_refused keep rules caller project bytes day old answer k works permit refusal =
-    refusal_serves keep rules (check caller project bytes day) old answer (decided (terms_at keep rules old) caller project verbs.Check day) k bytes IsCleanAnswer works permit refusal clean_needs
-    (λ r h. h) (λ r h. h) (λ r h is. inr (λ list change. change, refl))
+  abbrev ruling : Decision
+  ruling = decided (terms_at keep rules old) caller project verbs.Check day
 
-check_clean : {K : Type 0} (keep : Ghosts K) (rules : List Rule) (caller : Caller) (project bytes : List ℕ) (day : ℤ) (old : K) (k : ℕ) → keep.has_failed old ≡ false
-    → decided (terms_at keep rules old) caller project verbs.Check day ≡ Permit k → length bytes ≤ LIMIT → AreFindings (keep.dictionary old) bytes [] → Serves keep rules (check caller project bytes day) old old Clean
-check_clean keep rules caller project bytes day old k works permit le are =
-    let terms = terms_at keep rules old in
-    replies_at_once keep rules (check caller project bytes day) old Clean works refl
-    (permitted_reply (decided terms caller project verbs.Check day) k (OrRefused terms bytes IsCleanAnswer) Clean permit (refused_none terms bytes IsCleanAnswer Clean le are refl)) (inr (λ list change. change, refl))
+  pub check_denied : (m : ℕ) → keep.has_failed old ≡ false → ruling ≡ Deny m → Serves keep rules request old old (Denied m)
+  check_denied m works deny =
+      replies_at_once keep rules request old (Denied m) works tt
+      (denied_reply ruling m (OrRefused (terms_at keep rules old) bytes IsCleanAnswer) deny) (inr (λ list change. change, refl))
 
--- the body is refused, or it has no finding
-pub check_answered : {K : Type 0} (keep : Ghosts K) (rules : List Rule) (caller : Caller) (project bytes : List ℕ) (day : ℤ) (old : K) (given : Entries) (answer : Answer) (k : ℕ) → keep.has_failed old ≡ false
-    → decided (terms_at keep rules old) caller project verbs.Check day ≡ Permit k → given ≡ keep.dictionary old → IsRefusal given bytes answer ⊎ ((answer ≡ Clean) × (length bytes ≤ LIMIT) × AreFindings given bytes [])
-    → Serves keep rules (check caller project bytes day) old old answer
-check_answered keep rules caller project bytes day old given answer k works permit same (inl refusal) =
-    check_refused keep rules caller project bytes day old answer k works permit (subst (λ (e : Entries). IsRefusal e bytes answer) same refusal)
-check_answered keep rules caller project bytes day old given answer k works permit same (inr clean) =
-    subst (Serves keep rules (check caller project bytes day) old old) (sym clean.0)
-    (check_clean keep rules caller project bytes day old k works permit clean.1 (subst (λ (e : Entries). AreFindings e bytes []) same clean.2))
+  check_clean : (k : ℕ) → keep.has_failed old ≡ false → ruling ≡ Permit k → length bytes ≤ LIMIT → AreFindings (keep.dictionary old) bytes []
+      → Serves keep rules request old old Clean
+  check_clean k works permit le are =
+      let terms = terms_at keep rules old in
+      replies_at_once keep rules request old Clean works tt
+      (permitted_reply ruling k (OrRefused terms bytes IsCleanAnswer) Clean permit (refused_none terms bytes IsCleanAnswer Clean le are refl))
+      (inr (λ list change. change, refl))
+
+  -- the body is refused, or it has no finding
+  pub check_answered : (given : Entries) (answer : Answer) (k : ℕ) → keep.has_failed old ≡ false → ruling ≡ Permit k → given ≡ keep.dictionary old
+      → IsRefusal given bytes answer ⊎ ((answer ≡ Clean) × (length bytes ≤ LIMIT) × AreFindings given bytes []) → Serves keep rules request old old answer
+  check_answered given answer k works permit same (inl refusal) =
+      refusal_serves keep rules request old answer ruling k bytes IsCleanAnswer works permit (subst (λ (e : Entries). IsRefusal e bytes answer) same refusal)
+      clean_needs (λ r h. h) (λ r h. h) (λ r h is. inr (λ list change. change, refl))
+  check_answered given answer k works permit same (inr clean) =
+      subst (Serves keep rules request old old) (sym clean.0)
+      (check_clean k works permit clean.1 (subst (λ (e : Entries). AreFindings e bytes []) same clean.2))

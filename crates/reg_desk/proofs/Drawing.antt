@@ -10,6 +10,7 @@ use Rattle.ags_dict.specs.Entries.{Entries}
 use Rattle.ags_check.specs.Findings.{CheckedFile}
 use Rattle.reg_policy.specs.declared.rule.Rule.{Rule}
 use Rattle.reg_policy.specs.declared.callers.Caller.{Caller}
+use Rattle.reg_policy.specs.declared.subject.Decision.{Decision}
 use Rattle.reg_policy.specs.declared.subject.Decision.TheVariants.{Permit, Deny}
 use Rattle.reg_policy.specs.declared.subject.Verb.TheVariants as verbs
 use Rattle.reg_store.specs.Sent.{Sent}
@@ -21,7 +22,9 @@ use Rattle.reg_store.specs.declared.keep.Keep.{Ghosts}
 use Rattle.reg_store.specs.declared.keep.KeepError.{KeepError}
 use Rattle.reg_store.specs.declared.keep.KeepError.TheVariants as errors
 use Rattle.reg_store.specs.declared.keep.KeptHead.{KeptHead}
-use Rattle.reg_desk.specs.Asked.{extract}
+use Rattle.reg_desk.specs.Asked.{Asked, extract}
+use Rattle.reg_desk.specs.Laws.{IsModelAnswer}
+use Rattle.reg_desk.specs.declared.answer.Listed.{Listed}
 use Rattle.reg_desk.specs.declared.answer.Answer.{Answer}
 use Rattle.reg_desk.specs.declared.answer.Answer.TheVariants.{Text, Denied, Unknown}
 use Rattle.reg_desk.specs.Shown.{Look, IsProjectShown}
@@ -32,7 +35,7 @@ use Rattle.reg_desk.specs.View.{look_on, IsExtractOf, Sees}
 use Rattle.reg_desk.specs.Serving.{AsksStore, IsLineFor, text_answer, terms_at, OnlyReads, Serves, answer_of}
 use Rattle.reg_desk.proofs.Replies.{one_file}
 use Rattle.reg_desk.proofs.Bodies.{where_true}
-use Rattle.reg_desk.proofs.Serves.{is_model_answer, asks_of, replies_at_once, refused_serves, replies_serves, permitted_reply, denied_reply, permit_stands}
+use Rattle.reg_desk.proofs.Serves.{asks_of, replies_at_once, refused_serves, replies_serves, permitted_reply, denied_reply, permit_stands}
 
 -- ---- a kept deposit
 
@@ -62,24 +65,7 @@ fit_at given state i d all at = subst (IsFit given) (get_or_from_slice_get state
 
 pub look_same : (terms : Terms) (caller : Caller) (day : ℤ) (d : Deposit) (head : KeptHead) → IsHeadOf d head
     → look_on terms.policy caller head day ≡ look_at terms caller day d.sent
-look_same terms caller day d head is =
-    ap (λ (f : List ℕ). record { rules = terms.policy; caller = caller; owner = f; project = head.project; embargo = head.embargo; day = day }) is.firm
-    ∙ ap (λ (p : List ℕ). record {
-      rules = terms.policy;
-      caller = caller;
-      owner = d.sent.firm;
-      project = p;
-      embargo = head.embargo;
-      day = day;
-    }) is.project
-    ∙ ap (λ (e : ℤ). record {
-      rules = terms.policy;
-      caller = caller;
-      owner = d.sent.firm;
-      project = d.sent.project;
-      embargo = e;
-      day = day;
-    }) is.embargo
+look_same terms caller day d head is = cc
 
 pub clean_of : (given : Entries) (d : Sent) (file : CheckedFile) → IsFileOf given d file → IsCleanFile given d.bytes (file_of file)
 clean_of given d file is =
@@ -216,43 +202,41 @@ one_asks = (
   λ h. elim h [ inl e ↦ cc | inr e ↦ let same = e.1 in cc ],
 )
 
-extract_asks : (terms : Terms) (state : List Deposit) (caller : Caller) (project : List ℕ) (number : ℕ)
-    (groups : List (List ℕ)) (day : ℤ) (k : ℕ) → decided terms caller project verbs.Extract day ≡ Permit k
-    → AsksStore (IsReply terms state (extract caller project number groups day))
-extract_asks terms state caller project number groups day k permit =
-    let Drawn = IsDrawnFrom terms caller project groups day (held number state) in
-    asks_of IsOne (IsReply terms state (extract caller project number groups day))
-    (λ reply is. drawn_one terms caller project groups day (held number state) reply (permit_stands (decided terms caller project verbs.Extract day) k Drawn reply permit is)) one_asks
+module _ {K : Type 0} (keep : Ghosts K) (rules : List Rule) (caller : Caller) (project : List ℕ) (number : ℕ) (groups : List (List ℕ)) (day : ℤ) (old : K) where
+  abbrev terms : Terms
+  terms = terms_at keep rules old
 
-pub extract_denied : {K : Type 0} (keep : Ghosts K) (rules : List Rule) (caller : Caller) (project : List ℕ) (number : ℕ) (groups : List (List ℕ)) (day : ℤ) (old : K) (m : ℕ) → keep.has_failed old ≡ false
-    → decided (terms_at keep rules old) caller project verbs.Extract day ≡ Deny m → Serves keep rules (extract caller project number groups day) old old (Denied m)
-extract_denied keep rules caller project number groups day old m works deny =
-    let terms = terms_at keep rules old in
-    replies_at_once keep rules (extract caller project number groups day) old (Denied m) works refl
-    (denied_reply (decided terms caller project verbs.Extract day) m (IsDrawnFrom terms caller project groups day (held number (keep.deposits old))) deny) (inr (λ list change. change, refl))
+  abbrev request : Asked
+  request = extract caller project number groups day
 
-pub extract_unread : {K : Type 0} (keep : Ghosts K) (rules : List Rule) (caller : Caller) (project : List ℕ) (number : ℕ) (groups : List (List ℕ)) (day : ℤ) (old new : K) (k : ℕ) (e : KeepError)
-    → decided (terms_at keep rules old) caller project verbs.Extract day ≡ Permit k → OnlyReads keep old new (is_store e) → e ≢ errors.Full → Serves keep rules (extract caller project number groups day) old new (answer_of e)
-extract_unread keep rules caller project number groups day old new k e permit reads named =
-    let terms = terms_at keep rules old in
-    let state = keep.deposits old in
-    let asks = extract_asks terms state caller project number groups day k permit in
-    refused_serves keep rules (extract caller project number groups day) old new e reads named asks.0 (λ s. asks)
+  abbrev ruling : Decision
+  ruling = decided terms caller project verbs.Extract day
 
-pub extract_replies : {K : Type 0} (keep : Ghosts K) (rules : List Rule) (caller : Caller) (project : List ℕ) (number : ℕ) (groups : List (List ℕ)) (day : ℤ) (old new : K) (k : ℕ) (answer : Answer)
-    → decided (terms_at keep rules old) caller project verbs.Extract day ≡ Permit k → OnlyReads keep old new false → is_model_answer answer ≡ true
-    → (keep.is_sound new → ∥ IsDrawnFrom (terms_at keep rules old) caller project groups day (held number (keep.deposits old)) answer ∥₁)
-    → Serves keep rules (extract caller project number groups day) old new answer
-extract_replies keep rules caller project number groups day old new k answer permit reads from_model drawn =
-    let terms = terms_at keep rules old in
-    let state = keep.deposits old in
-    replies_serves keep rules (extract caller project number groups day) old new answer reads from_model
-    (λ s. ∥∥₁_map (drawn s) (permitted_reply (decided terms caller project verbs.Extract day) k (IsDrawnFrom terms caller project groups day (held number state)) answer permit))
-    (λ s. inr (λ list change. change, refl)) (extract_asks terms state caller project number groups day k permit).0
+  abbrev Drawn : Answer → Type 0
+  Drawn = IsDrawnFrom terms caller project groups day (held number (keep.deposits old))
+
+  extract_asks : (k : ℕ) → ruling ≡ Permit k → AsksStore (IsReply terms (keep.deposits old) request)
+  extract_asks k permit =
+      asks_of IsOne (IsReply terms (keep.deposits old) request)
+      (λ reply is. drawn_one terms caller project groups day (held number (keep.deposits old)) reply (permit_stands ruling k Drawn reply permit is)) one_asks
+
+  pub extract_denied : (m : ℕ) → keep.has_failed old ≡ false → ruling ≡ Deny m → Serves keep rules request old old (Denied m)
+  extract_denied m works deny =
+      replies_at_once keep rules request old (Denied m) works tt (denied_reply ruling m Drawn deny) (inr (λ list change. change, refl))
+
+  pub extract_unread : (new : K) (k : ℕ) (e : KeepError) → ruling ≡ Permit k → OnlyReads keep old new (is_store e) → e ≢ errors.Full
+      → Serves keep rules request old new (answer_of e)
+  extract_unread new k e permit reads named = refused_serves keep rules request old new e reads named (extract_asks k permit)
+
+  pub extract_replies : (new : K) (k : ℕ) (answer : Answer) → ruling ≡ Permit k → OnlyReads keep old new false → IsModelAnswer answer
+      → (keep.is_sound new → ∥ Drawn answer ∥₁) → Serves keep rules request old new answer
+  extract_replies new k answer permit reads from_model drawn =
+      replies_serves keep rules request old new answer reads from_model (λ s. ∥∥₁_map (drawn s) (permitted_reply ruling k Drawn answer permit))
+      (λ s. inr (λ list change. change, refl)) (extract_asks k permit).0
 
 -- ---- what is seen
 
-same_kept : (o : Option Deposit) (d e : Deposit) → o ≡ Some d → o ≡ Some e → d ≡ e
+pub same_kept : (o : Option Deposit) (d e : Deposit) → o ≡ Some d → o ≡ Some e → d ≡ e
 same_kept o d e a b = cc
 
 -- a reading of what is kept of a deposit does not fail the store
@@ -272,59 +256,43 @@ kept_lives keep old number (Err errors.Store) within fit broken =
     (λ (f : (file : CheckedFile) × IsFileOf (keep.dictionary old) d.0.sent file). broken refl d.0.sent f.0 sent f.1))
 
 -- whether its row of PROJ is shown, where that was read after its head
-seen_file : {K : Type 0} (keep : Ghosts K) (terms : Terms) (old mid : K) (caller : Caller) (number : ℕ) (day : ℤ) (head : KeptHead) (look : Look) (seen : Bool) → OnlyReads keep old mid false → keep.is_sound mid
-    → (h : IsHeaded (keep.dictionary old) (keep.deposits old) number head)
-    → look ≡ look_at terms caller day h.kept.sent
-    → OfDeposit (keep.dictionary mid) (sents (keep.deposits mid)) number (λ file. Sees look file seen)
-    → (file : CheckedFile) → IsFileOf (keep.dictionary old) h.kept.sent file
-    → (seen ≡ true) ↔ IsProjectShown (look_at terms caller day h.kept.sent) (file_of file)
-seen_file keep terms old mid caller number day head look seen reads s h same sees file is =
-    subst (λ (l : Look). (seen ≡ true) ↔ IsProjectShown l (file_of file)) same
-    (sees h.kept.sent file (ap (λ (l : List Deposit). slice_get (sents l) (number - 1)) (reads.same s refl) ∙ h.place)
-    (subst (λ (e : Entries). IsFileOf e h.kept.sent file) (sym reads.same_dictionary) is))
+module _ {K : Type 0} (keep : Ghosts K) (rules : List Rule) (old mid : K) (caller : Caller) (number : ℕ) (day : ℤ) (head : KeptHead) (look : Look) (seen : Bool)
+    (reads : OnlyReads keep old mid false) (s : keep.is_sound mid) (h : IsHeaded (keep.dictionary old) (keep.deposits old) number head)
+    (same : look ≡ look_at (terms_at keep rules old) caller day h.kept.sent)
+    (sees : OfDeposit (keep.dictionary mid) (sents (keep.deposits mid)) number (λ file. Sees look file seen)) where
+  abbrev its_look : Look
+  its_look = look_at (terms_at keep rules old) caller day h.kept.sent
 
-pub seen_listed : {K : Type 0} (keep : Ghosts K) (rules : List Rule) (old mid : K) (caller : Caller) (number : ℕ) (day : ℤ) (head : KeptHead) (look : Look) (seen : Bool) → OnlyReads keep old mid false → keep.is_sound mid
-    → (h : IsHeaded (keep.dictionary old) (keep.deposits old) number head)
-    → look ≡ look_at (terms_at keep rules old) caller day h.kept.sent
-    → OfDeposit (keep.dictionary mid) (sents (keep.deposits mid)) number (λ file. Sees look file seen)
-    → head.withdrawn ≡ false → seen ≡ true
-    → (d : Deposit) → held number (keep.deposits old) ≡ Some d
-    → ∥ IsLineFor (terms_at keep rules old) caller day number d
-    (Some (record { number = number; firm = head.firm; embargo = head.embargo })) ∥₁
-seen_listed keep rules old mid caller number day head look seen reads s h same sees unmarked is d holds =
-    let terms = terms_at keep rules old in
-    subst (λ (k : Deposit). ∥ IsLineFor terms caller day number k
-    (Some (record { number = number; firm = head.firm; embargo = head.embargo })) ∥₁) (same_kept
-    (held number (keep.deposits old)) h.kept d h.holds holds)
-    (∥∥₁_map h.fit (λ (f : (file : CheckedFile) × IsFileOf terms.dictionary h.kept.sent file). (
-      (
-        sym h.of_head.withdrawn ∙ unmarked,
+  seen_file : (file : CheckedFile) → IsFileOf (keep.dictionary old) h.kept.sent file → (seen ≡ true) ↔ IsProjectShown its_look (file_of file)
+  seen_file file is =
+      subst (λ (l : Look). (seen ≡ true) ↔ IsProjectShown l (file_of file)) same
+      (sees h.kept.sent file (ap (λ (l : List Deposit). slice_get (sents l) (number - 1)) (reads.same s refl) ∙ h.place)
+      (subst (λ (e : Entries). IsFileOf e h.kept.sent file) (sym reads.same_dictionary) is))
+
+  pub seen_listed : head.withdrawn ≡ false → seen ≡ true → (d : Deposit) → held number (keep.deposits old) ≡ Some d
+      → ∥ IsLineFor (terms_at keep rules old) caller day number d (Some (record { number = number; firm = head.firm; embargo = head.embargo })) ∥₁
+  seen_listed unmarked is d holds =
+      let line : List ℕ → ℤ → Listed = λ firm until. record { number = number; firm = firm; embargo = until } in
+      subst (λ (k : Deposit). ∥ IsLineFor (terms_at keep rules old) caller day number k (Some (line head.firm head.embargo)) ∥₁)
+      (same_kept (held number (keep.deposits old)) h.kept d h.holds holds)
+      (∥∥₁_map h.fit (λ (f : (file : CheckedFile) × IsFileOf (keep.dictionary old) h.kept.sent file). (
         (
-          file_of f.0,
-          clean_of terms.dictionary h.kept.sent f.0 f.1,
-          (seen_file keep terms old mid caller number day head look seen reads s h same sees f.0 f.1).0 is,
+          sym h.of_head.withdrawn ∙ unmarked,
+          (file_of f.0, clean_of (keep.dictionary old) h.kept.sent f.0 f.1, (seen_file f.0 f.1).0 is),
         ),
-      ),
-      ap (λ (firm : List ℕ). record { number = number; firm = firm; embargo = head.embargo }) h.of_head.firm ∙ ap
-          (λ (e : ℤ). record { number = number; firm = h.kept.sent.firm; embargo = e }) h.of_head.embargo,
-    )))
+        ap (λ (firm : List ℕ). line firm head.embargo) h.of_head.firm ∙ ap (line h.kept.sent.firm) h.of_head.embargo,
+      )))
 
-pub seen_unlisted : {K : Type 0} (keep : Ghosts K) (rules : List Rule) (old mid : K) (caller : Caller) (number : ℕ) (day : ℤ) (head : KeptHead) (look : Look) (seen : Bool) → OnlyReads keep old mid false → keep.is_sound mid
-    → (h : IsHeaded (keep.dictionary old) (keep.deposits old) number head)
-    → look ≡ look_at (terms_at keep rules old) caller day h.kept.sent
-    → OfDeposit (keep.dictionary mid) (sents (keep.deposits mid)) number (λ file. Sees look file seen) → seen ≡ false
-    → (d : Deposit) → held number (keep.deposits old) ≡ Some d
-    → ∥ IsLineFor (terms_at keep rules old) caller day number d None ∥₁
-seen_unlisted keep rules old mid caller number day head look seen reads s h same sees is d holds =
-    let terms = terms_at keep rules old in
-    subst (λ (k : Deposit). ∥ IsLineFor terms caller day number k None ∥₁)
-    (same_kept (held number (keep.deposits old)) h.kept d h.holds holds)
-    (∥∥₁_map h.fit (λ (f : (file : CheckedFile) × IsFileOf terms.dictionary h.kept.sent file)
-    (was : IsSeen terms caller day h.kept).
-    let clean = clean_of terms.dictionary h.kept.sent f.0 f.1 in
-    let shown = subst (IsProjectShown (look_at terms caller day h.kept.sent))
-    (one_file terms.dictionary h.kept.sent.bytes was.1.0 (file_of f.0) was.1.1 clean) was.1.2 in
-    true≢false (sym ((seen_file keep terms old mid caller number day head look seen reads s h same sees f.0 f.1).1 shown) ∙ is)))
+  pub seen_unlisted : seen ≡ false → (d : Deposit) → held number (keep.deposits old) ≡ Some d
+      → ∥ IsLineFor (terms_at keep rules old) caller day number d None ∥₁
+  seen_unlisted is d holds =
+      subst (λ (k : Deposit). ∥ IsLineFor (terms_at keep rules old) caller day number k None ∥₁)
+      (same_kept (held number (keep.deposits old)) h.kept d h.holds holds)
+      (∥∥₁_map h.fit (λ (f : (file : CheckedFile) × IsFileOf (keep.dictionary old) h.kept.sent file)
+      (was : IsSeen (terms_at keep rules old) caller day h.kept).
+      let clean = clean_of (keep.dictionary old) h.kept.sent f.0 f.1 in
+      let one = one_file (keep.dictionary old) h.kept.sent.bytes was.1.0 (file_of f.0) was.1.1 clean in
+      true≢false (sym ((seen_file f.0 f.1).1 (subst (IsProjectShown its_look) one was.1.2)) ∙ is)))
 
 -- it is withdrawn
 pub marked_unlisted : {K : Type 0} (keep : Ghosts K) (rules : List Rule) (old : K) (caller : Caller) (number : ℕ)

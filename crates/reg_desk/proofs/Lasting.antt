@@ -1,16 +1,13 @@
 -- A deposit with a receipt is held from then on, and one that was answered as withdrawn has its mark, whatever a crash
 -- leaves.
-use Rattle.std.proofs.Common.{◌≡◌, ◌≢◌, ℕ, zero, suc, ◌+◌, Bool, true, false, cond, Option, Some, None, List, [], ◌∷◌, ◌++◌, length, refl, sym, ap, subst, ◌∙◌, inl, inr, ◌⊎◌, arith, ◌&&◌}
+use Rattle.std.proofs.Common.{◌≡◌, ◌≢◌, ℕ, zero, suc, ◌+◌, Bool, true, false, cond, Option, Some, None, List, [], ◌∷◌, ◌++◌, length, refl, sym, ap, subst, ◌∙◌, inl, inr, ◌⊎◌, arith}
 use Rattle.std.specs.Prelude.{ℤ, nat_lt, slice_get, MatchBool, option_map}
 use Rattle.std.specs.List.{AllZip}
-use Rattle.std.specs.Str.{bytes_eq}
-use Rattle.std.proofs.lemmas.Bool.{and_parts}
-use Rattle.std.proofs.lemmas.Slice.Eq.{bytes_eq-Decides}
 use Rattle.std.proofs.lemmas.Option.{same_Some}
 use Rattle.reg_policy.specs.declared.rule.Rule.{Rule}
 use Rattle.reg_policy.specs.declared.callers.Caller.{Caller}
 use Rattle.reg_policy.specs.declared.subject.Verb.TheVariants as verbs
-use Rattle.reg_store.specs.Sent.{Sent, is_repeat}
+use Rattle.reg_store.specs.Sent.{Sent}
 use Rattle.reg_store.specs.Deposit.{Deposit, sents, unmarked, mark, marked}
 use Rattle.reg_store.proofs.Lemmas.{sent_at, deposit_at}
 use Rattle.reg_store.specs.declared.keep.Keep.{Ghosts}
@@ -20,6 +17,7 @@ use Rattle.reg_desk.specs.declared.answer.Answer.TheVariants.{Receipt, Full, NoM
 use Rattle.reg_desk.specs.Machine.{Terms, decided, first_equal, receipt_of, held, IsReply, asked_deposit, Changes, IsNext}
 use Rattle.reg_desk.specs.Serving.{is_failed, IsAnswer, IsAfter, terms_at}
 use Rattle.reg_desk.specs.Running.{AreFailed, AreAnswers, failing, Runs, IsHeldIn}
+use Rattle.reg_desk.proofs.Firsts.{first_at}
 use Rattle.reg_desk.proofs.Taken.{not_refused, taken_received, withdrawn_own}
 
 -- ---- a list that grew, and in which more may be marked
@@ -72,33 +70,6 @@ after_grows terms request state next StoreFailed lives h = absurd cc
 after_grows terms request state next a lives h = next_grows terms request state next h
 
 -- ---- a receipt
-
--- an equal deposit has this firm, this project and these bytes
-repeat_is : (firm project bytes : List ℕ) (d : Sent) → is_repeat firm project bytes d ≡ true → d ≡ record { firm = firm; project = project; embargo = d.embargo; bytes = bytes }
-repeat_is firm project bytes d e =
-    let all = and_parts (bytes_eq d.firm firm) (bytes_eq d.project project && bytes_eq d.bytes bytes) e in
-    let rest = and_parts (bytes_eq d.project project) (bytes_eq d.bytes bytes) all.1 in
-    ap (λ (f : List ℕ). record { firm = f; project = d.project; embargo = d.embargo; bytes = d.bytes }) ((bytes_eq-Decides d.firm firm).0 all.0)
-    ∙ ap (λ (p : List ℕ). record { firm = firm; project = p; embargo = d.embargo; bytes = d.bytes })
-    ((bytes_eq-Decides d.project project).0 rest.0)
-    ∙ ap (λ (b : List ℕ). record { firm = firm; project = project; embargo = d.embargo; bytes = b })
-    ((bytes_eq-Decides d.bytes bytes).0 rest.1)
-
-abbrev IsFirstAt : List ℕ → List ℕ → List ℕ → ℕ → List Sent → ℕ → ℤ → Type 0
-IsFirstAt firm project bytes n list k e = (i : ℕ) × (k ≡ n + i) × (slice_get list i ≡ Some (record { firm = firm; project = project; embargo = e; bytes = bytes }))
-
-first_at : (firm project bytes : List ℕ) (n : ℕ) (list : List Sent) (k : ℕ) (e : ℤ) → first_equal n firm project bytes list ≡ Some (k, e) → IsFirstAt firm project bytes n list k e
-first_at firm project bytes n [] k e h = absurd cc
-first_at firm project bytes n (d ∷ list) k e h = step (is_repeat firm project bytes d) refl h (first_at firm project bytes (n + 1) list k e)
-  where
-    step : (t : Bool) → is_repeat firm project bytes d ≡ t → cond t (Some (n, d.embargo)) (first_equal (n + 1) firm project bytes list) ≡ Some (k, e)
-        → (first_equal (n + 1) firm project bytes list ≡ Some (k, e) → IsFirstAt firm project bytes (n + 1) list k e) → IsFirstAt firm project bytes n (d ∷ list) k e
-    step true is h rest =
-        let pair : (n, d.embargo) ≡ (k, e) = same_Some (n, d.embargo) (k, e) h in
-        let number : n ≡ k = ap (λ (p : ℕ × ℤ). p.0) pair in
-        let day : d.embargo ≡ e = ap (λ (p : ℕ × ℤ). p.1) pair in
-        (0, omega (arith, number), ap (λ (x : Sent). Some x) (repeat_is firm project bytes d is ∙ ap (λ (x : ℤ). record { firm = firm; project = project; embargo = x; bytes = bytes }) day))
-    step false is h rest = let r = rest h in (suc r.0, omega (arith, r.1), r.2)
 
 receipt_fields : (n m : ℕ) (e f : ℤ) → Receipt n e ≡ Receipt m f → (n ≡ m) × (e ≡ f)
 receipt_fields n m e f h = (cc, cc)
@@ -218,9 +189,8 @@ failed_held list request a e = subst (IsHeldIn list request) (sym e) (none reque
 all_failed : (list : List Deposit) (requests : List Asked) (answers : List Answer) → AreFailed requests answers
     → AllZip (IsHeldIn list) requests answers
 all_failed list [] [] h = tt
-all_failed list [] (a ∷ answers) h = absurd h
-all_failed list (r ∷ requests) [] h = absurd h
 all_failed list (r ∷ requests) (a ∷ answers) h = (failed_held list r a h.0, all_failed list requests answers h.1)
+all_failed list requests answers h = absurd h
 
 is_store_failed : (a : Answer) → is_failed a ≡ true → a ≡ StoreFailed
 is_store_failed StoreFailed h = refl
@@ -251,11 +221,10 @@ lasts : (terms : Terms) (state : List Deposit) (requests : List Asked) (answers 
     (last list : List Deposit) → AreAnswers terms state requests answers last → Grows last list
     → Lasts terms state requests answers last list
 lasts terms state [] [] last list h there = (grows_itself state last h, tt)
-lasts terms state [] (a ∷ answers) last list h there = absurd h
-lasts terms state (r ∷ requests) [] last list h there = absurd h
 lasts terms state (r ∷ requests) (a ∷ answers) last list h there =
     lasts_step terms state r requests a answers last list (is_failed a) refl h.0 there
     (λ next k. lasts terms next requests answers last list k there) h.1
+lasts terms state requests answers last list h there = absurd h
 
 left_grows : (terms : Terms) (requests : List Asked) (answers : List Answer) (state list : List Deposit)
     → (list ≡ state) ⊎ ((r : Asked) × (failing requests answers ≡ Some r) × Changes terms state r list)

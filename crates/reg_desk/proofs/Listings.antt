@@ -4,9 +4,10 @@ use Rattle.std.specs.Prelude.{ℤ, slice_get, length, MatchBool}
 use Rattle.std.specs.Str.{bytes_eq}
 use Rattle.std.proofs.Math.Logic.{∥∥₁_map, ∥∥₁_elim}
 use Rattle.std.proofs.Props.{props}
-use Rattle.std.proofs.lemmas.List.{drop_all}
+use Rattle.std.proofs.lemmas.List.{drop_all, drop_more}
 use Rattle.reg_policy.specs.declared.rule.Rule.{Rule}
 use Rattle.reg_policy.specs.declared.callers.Caller.{Caller}
+use Rattle.reg_policy.specs.declared.subject.Decision.{Decision}
 use Rattle.reg_policy.specs.declared.subject.Decision.TheVariants.{Permit, Deny}
 use Rattle.reg_policy.specs.declared.subject.Verb.TheVariants as verbs
 use Rattle.reg_store.specs.Sent.{numbers_from}
@@ -15,13 +16,13 @@ use Rattle.reg_store.specs.Keep.{is_store}
 use Rattle.reg_store.specs.declared.keep.Keep.{Ghosts}
 use Rattle.reg_store.specs.declared.keep.KeepError.{KeepError}
 use Rattle.reg_store.specs.declared.keep.KeepError.TheVariants as errors
-use Rattle.reg_desk.specs.Asked.{listing}
+use Rattle.reg_desk.specs.Asked.{Asked, listing}
 use Rattle.reg_desk.specs.declared.answer.Listed.{Listed}
 use Rattle.reg_desk.specs.declared.answer.Answer.{Answer}
 use Rattle.reg_desk.specs.declared.answer.Answer.TheVariants.{Listing, Denied}
-use Rattle.reg_desk.specs.Machine.{Terms, decided, IsSeen, IsListing, held, IsReply}
+use Rattle.reg_desk.specs.Machine.{Terms, decided, IsSeen, listed_of, IsListing, held, IsReply}
 use Rattle.reg_desk.specs.Serving.{AsksStore, IsLineFor, terms_at, OnlyReads, Serves, answer_of}
-use Rattle.reg_desk.proofs.Drawing.{held_at}
+use Rattle.reg_desk.proofs.Drawing.{held_at, same_kept}
 use Rattle.reg_desk.proofs.Serves.{asks_of, replies_at_once, refused_serves, replies_serves, permitted_reply, denied_reply, permit_stands}
 
 -- ---- lines for numbers
@@ -67,33 +68,24 @@ lines_end terms caller day at all lines so_far = subst (AreLines terms caller da
 abbrev Stands : (ℕ → Option Deposit) → ℕ → List Deposit → Type 0
 Stands at n state = (i k : ℕ) (d : Deposit) → slice_get state i ≡ Some d → k ≡ n + i → at k ≡ Some d
 
-same_some : (o : Option Deposit) (d e : Deposit) → o ≡ Some d → o ≡ Some e → d ≡ e
-same_some o d e a b = cc
+-- a deposit of number n, and the list of lines from there on
+module _ (terms : Terms) (caller : Caller) (project : List ℕ) (day : ℤ) (n : ℕ) (d : Deposit) (state : List Deposit) (lines : List Listed) where
+  abbrev More : List Listed → Type 0
+  More = IsListing terms caller project day (n + 1) state
 
-listed_then : (terms : Terms) (caller : Caller) (project : List ℕ) (day : ℤ) (n : ℕ) (d : Deposit)
-    (state : List Deposit) (lines more : List Listed) (line : Option Listed) → IsLineFor terms caller day n d line
-    → lines ≡ with_line line more
-    → IsListing terms caller project day (n + 1) state more
-    → (IsSeen terms caller day d × ((l : List Listed) ×
-    (lines ≡ record { number = n; firm = d.sent.firm; embargo = d.sent.embargo } ∷ l) × IsListing terms caller project
-    day (n + 1) state l))
-    ⊎ ((IsSeen terms caller day d → ⊥) × IsListing terms caller project day (n + 1) state lines)
-listed_then terms caller project day n d state lines more None listed is rest = inr (listed, subst (IsListing terms caller project day (n + 1) state) (sym is) rest)
-listed_then terms caller project day n d state lines more (Some line) listed is rest = inl (listed.0, (more, is ∙ ap (λ (l : Listed). l ∷ more) listed.1, rest))
+  abbrev Here : Type 0
+  Here = (IsSeen terms caller day d × ((l : List Listed) × (lines ≡ listed_of n d.sent ∷ l) × More l)) ⊎ ((IsSeen terms caller day d → ⊥) × More lines)
 
-listing_step : (terms : Terms) (caller : Caller) (project : List ℕ) (day : ℤ) (at : ℕ → Option Deposit) (n : ℕ)
-    (d : Deposit) (state : List Deposit) (numbers : List ℕ) (lines : List Listed) (t : Bool) → at n ≡ Some d
-    → ((l : List Listed) → AreLines terms caller day at numbers l → IsListing terms caller project day (n + 1) state l)
-    → AreLines terms caller day at (cond t (n ∷ numbers) numbers) lines
-    → MatchBool t ((IsSeen terms caller day d ×
-    ((l : List Listed) × (lines ≡ record { number = n; firm = d.sent.firm; embargo = d.sent.embargo } ∷ l) × IsListing
-    terms caller project day (n + 1) state l))
-    ⊎ ((IsSeen terms caller day d → ⊥) × IsListing terms caller project day (n + 1) state lines)) (IsListing terms caller project day (n + 1) state lines)
-listing_step terms caller project day at n d state numbers lines true holds rest h =
-    let same : h.0 ≡ d = same_some (at n) h.0 d h.3 holds in
-    listed_then terms caller project day n d state lines h.2 h.1
-    (subst (λ (k : Deposit). IsLineFor terms caller day n k h.1) same h.4) h.5 (rest h.2 h.6)
-listing_step terms caller project day at n d state numbers lines false holds rest h = rest lines h
+  listed_then : (more : List Listed) (line : Option Listed) → IsLineFor terms caller day n d line → lines ≡ with_line line more → More more → Here
+  listed_then more None listed is rest = inr (listed, subst More (sym is) rest)
+  listed_then more (Some line) listed is rest = inl (listed.0, (more, is ∙ ap (λ (l : Listed). l ∷ more) listed.1, rest))
+
+  listing_step : (at : ℕ → Option Deposit) (numbers : List ℕ) (t : Bool) → at n ≡ Some d → ((l : List Listed) → AreLines terms caller day at numbers l → More l)
+      → AreLines terms caller day at (cond t (n ∷ numbers) numbers) lines → MatchBool t Here (More lines)
+  listing_step at numbers true holds rest h =
+      let listed = subst (λ (k : Deposit). IsLineFor terms caller day n k h.1) (same_kept (at n) h.0 d h.3 holds) h.4 in
+      listed_then h.2 h.1 listed h.5 (rest h.2 h.6)
+  listing_step at numbers false holds rest h = rest lines h
 
 lines_listing : (terms : Terms) (caller : Caller) (project : List ℕ) (day : ℤ) (at : ℕ → Option Deposit) (n : ℕ)
     (state : List Deposit) → Stands at n state
@@ -101,7 +93,7 @@ lines_listing : (terms : Terms) (caller : Caller) (project : List ℕ) (day : �
     → IsListing terms caller project day n state lines
 lines_listing terms caller project day at n [] stands lines h = h
 lines_listing terms caller project day at n (d ∷ state) stands lines h =
-    listing_step terms caller project day at n d state (numbers_from (n + 1) project (sents state)) lines
+    listing_step terms caller project day n d state lines at (numbers_from (n + 1) project (sents state))
     (bytes_eq d.sent.project project) (stands 0 n d refl (omega arith))
     (lines_listing terms caller project day at (n + 1) state (λ i k e is same. stands (suc i) k e is (omega (arith, same)))) h
 
@@ -137,20 +129,6 @@ number_within project state numbers i same lt =
 
 -- ---- the loop
 
-drop_get : (numbers : List ℕ) (i : ℕ) → i < length numbers → drop i numbers ≡ get_or numbers i 0 ∷ drop (suc i) numbers
-drop_get [] i lt = absurd (omega (arith, lt))
-drop_get (n ∷ numbers) zero lt = refl
-drop_get (n ∷ numbers) (suc i) lt = drop_get numbers i (omega (arith, lt))
-
--- one more number
-pub number_more : (terms : Terms) (caller : Caller) (day : ℤ) (state : List Deposit) (all : List ℕ) (i : ℕ)
-    (lines : List Listed) (kept : Deposit) (line : Option Listed) → i < length all
-    → SoFar terms caller day (λ k. held k state) all (drop i all) lines → held (get_or all i 0) state ≡ Some kept → IsLineFor terms caller day (get_or all i 0) kept line
-    → SoFar terms caller day (λ k. held k state) all (drop (suc i) all) (put_line lines line)
-number_more terms caller day state all i lines kept line lt so_far holds listed =
-    lines_more terms caller day (λ k. held k state) all (get_or all i 0) (drop (suc i) all) lines kept line
-    (subst (λ (l : List ℕ). SoFar terms caller day (λ k. held k state) all l lines) (drop_get all i lt) so_far) holds listed
-
 -- one more number, whose deposit is seen or not
 pub number_step : (terms : Terms) (caller : Caller) (day : ℤ) (state : List Deposit) (all : List ℕ) (i : ℕ)
     (lines : List Listed) (line : Option Listed) → i < length all
@@ -158,12 +136,13 @@ pub number_step : (terms : Terms) (caller : Caller) (day : ℤ) (state : List De
     → ((d : Deposit) → held (get_or all i 0) state ≡ Some d → ∥ IsLineFor terms caller day (get_or all i 0) d line ∥₁)
     → ∥ SoFar terms caller day (λ k. held k state) all (drop i all) lines ∥₁ → ∥ SoFar terms caller day (λ k. held k state) all (drop (i + 1) all) (put_line lines line) ∥₁
 number_step terms caller day state all i lines line lt within listed so_far =
-    let d = held_at state (get_or all i 0) within.0 within.1 in
-    let next : i + 1 ≡ suc i = omega arith in
-    ∥∥₁_elim so_far (Prim.hlevel props) (λ (f : SoFar terms caller day (λ k. held k state) all (drop i all) lines).
-    ∥∥₁_map (listed d.0 d.2) (λ (is : IsLineFor terms caller day (get_or all i 0) d.0 line).
-    subst (λ (k : ℕ). SoFar terms caller day (λ k. held k state) all (drop k all) (put_line lines line)) (sym next)
-    (number_more terms caller day state all i lines d.0 line lt f d.2 is)))
+    let at = λ (k : ℕ). held k state in
+    let n = get_or all i 0 in
+    let d = held_at state n within.0 within.1 in
+    ∥∥₁_elim so_far (Prim.hlevel props) (λ (f : SoFar terms caller day at all (drop i all) lines).
+    ∥∥₁_map (listed d.0 d.2) (λ (is : IsLineFor terms caller day n d.0 line).
+    lines_more terms caller day at all n (drop (i + 1) all) lines d.0 line
+    (subst (λ (l : List ℕ). SoFar terms caller day at all l lines) (drop_more all i 0 lt) f) d.2 is))
 
 pub lines_whole : (terms : Terms) (caller : Caller) (project : List ℕ) (day : ℤ) (state : List Deposit) (all : List ℕ)
     (i : ℕ) (lines : List Listed) → length all ≤ i → all ≡ numbers_from 1 project (sents state)
@@ -175,44 +154,42 @@ lines_whole terms caller project day state all i lines le same so_far =
     (lines_end terms caller day (λ k. held k state) all lines (subst (λ (left : List ℕ). SoFar terms caller day (λ k. held k state) all left lines) (drop_all i all le) f))))
 
 pub terms_same : {K : Type 0} (keep : Ghosts K) (rules : List Rule) (old new : K) (failed : Bool) → OnlyReads keep old new failed → terms_at keep rules new ≡ terms_at keep rules old
-terms_same keep rules old new failed reads =
-    ap (λ d. record { policy = rules; dictionary = d; limit = keep.limit new }) reads.same_dictionary ∙ ap (λ (l : ℕ). record { policy = rules; dictionary = keep.dictionary old; limit = l }) reads.same_limit
+terms_same keep rules old new failed reads = cc
 
 -- ---- the answers to a list
 
-abbrev IsListingAnswer : Terms → List Deposit → Caller → List ℕ → ℤ → Answer → Type 0
-IsListingAnswer terms state caller project day r = (lines : List Listed) × IsListing terms caller project day 1 state lines × (r ≡ Listing lines)
+module _ {K : Type 0} (keep : Ghosts K) (rules : List Rule) (caller : Caller) (project : List ℕ) (day : ℤ) (old : K) where
+  abbrev terms : Terms
+  terms = terms_at keep rules old
 
-listing_asks : (terms : Terms) (state : List Deposit) (caller : Caller) (project : List ℕ) (day : ℤ) (k : ℕ)
-    → decided terms caller project verbs.List day ≡ Permit k → AsksStore (IsReply terms state (listing caller project day))
-listing_asks terms state caller project day k permit =
-    asks_of (IsListingAnswer terms state caller project day) (IsReply terms state (listing caller project day))
-    (λ reply is. permit_stands (decided terms caller project verbs.List day) k (IsListingAnswer terms state caller project day) reply permit is)
-    ((λ n h. let e = h.2 in cc, λ h. let e = h.2 in cc), λ found h. let e = h.2 in cc, λ h. let e = h.2 in cc)
+  abbrev state : List Deposit
+  state = keep.deposits old
 
-pub listing_denied : {K : Type 0} (keep : Ghosts K) (rules : List Rule) (caller : Caller) (project : List ℕ) (day : ℤ) (old : K) (m : ℕ) → keep.has_failed old ≡ false
-    → decided (terms_at keep rules old) caller project verbs.List day ≡ Deny m → Serves keep rules (listing caller project day) old old (Denied m)
-listing_denied keep rules caller project day old m works deny =
-    let terms = terms_at keep rules old in
-    replies_at_once keep rules (listing caller project day) old (Denied m) works refl
-    (denied_reply (decided terms caller project verbs.List day) m (IsListingAnswer terms (keep.deposits old) caller project day) deny) (inr (λ list change. change, refl))
+  abbrev request : Asked
+  request = listing caller project day
 
-pub listing_unread : {K : Type 0} (keep : Ghosts K) (rules : List Rule) (caller : Caller) (project : List ℕ) (day : ℤ) (old new : K) (k : ℕ) (e : KeepError)
-    → decided (terms_at keep rules old) caller project verbs.List day ≡ Permit k → OnlyReads keep old new (is_store e) → e ≢ errors.Full → Serves keep rules (listing caller project day) old new (answer_of e)
-listing_unread keep rules caller project day old new k e permit reads named =
-    let terms = terms_at keep rules old in
-    let state = keep.deposits old in
-    let asks = listing_asks terms state caller project day k permit in
-    refused_serves keep rules (listing caller project day) old new e reads named asks.0 (λ s. asks)
+  abbrev ruling : Decision
+  ruling = decided terms caller project verbs.List day
 
-pub listing_replies : {K : Type 0} (keep : Ghosts K) (rules : List Rule) (caller : Caller) (project : List ℕ) (day : ℤ) (old new : K) (k : ℕ) (lines : List Listed)
-    → decided (terms_at keep rules old) caller project verbs.List day ≡ Permit k → OnlyReads keep old new false
-    → (keep.is_sound new → ∥ IsListing (terms_at keep rules old) caller project day 1 (keep.deposits old) lines ∥₁)
-    → Serves keep rules (listing caller project day) old new (Listing lines)
-listing_replies keep rules caller project day old new k lines permit reads is =
-    let terms = terms_at keep rules old in
-    let state = keep.deposits old in
-    replies_serves keep rules (listing caller project day) old new (Listing lines) reads refl
-    (λ s. ∥∥₁_map (is s) (λ (h : IsListing terms caller project day 1 state lines).
-    permitted_reply (decided terms caller project verbs.List day) k (IsListingAnswer terms state caller project day) (Listing lines) permit (lines, h, refl)))
-    (λ s. inr (λ list change. change, refl)) (listing_asks terms state caller project day k permit).0
+  abbrev Lists : Answer → Type 0
+  Lists r = (lines : List Listed) × IsListing terms caller project day 1 state lines × (r ≡ Listing lines)
+
+  listing_asks : (k : ℕ) → ruling ≡ Permit k → AsksStore (IsReply terms state request)
+  listing_asks k permit =
+      asks_of Lists (IsReply terms state request) (λ reply is. permit_stands ruling k Lists reply permit is)
+      ((λ n h. let e = h.2 in cc, λ h. let e = h.2 in cc), λ found h. let e = h.2 in cc, λ h. let e = h.2 in cc)
+
+  pub listing_denied : (m : ℕ) → keep.has_failed old ≡ false → ruling ≡ Deny m → Serves keep rules request old old (Denied m)
+  listing_denied m works deny =
+      replies_at_once keep rules request old (Denied m) works tt (denied_reply ruling m Lists deny) (inr (λ list change. change, refl))
+
+  pub listing_unread : (new : K) (k : ℕ) (e : KeepError) → ruling ≡ Permit k → OnlyReads keep old new (is_store e) → e ≢ errors.Full
+      → Serves keep rules request old new (answer_of e)
+  listing_unread new k e permit reads named = refused_serves keep rules request old new e reads named (listing_asks k permit)
+
+  pub listing_replies : (new : K) (k : ℕ) (lines : List Listed) → ruling ≡ Permit k → OnlyReads keep old new false
+      → (keep.is_sound new → ∥ IsListing terms caller project day 1 state lines ∥₁) → Serves keep rules request old new (Listing lines)
+  listing_replies new k lines permit reads is =
+      replies_serves keep rules request old new (Listing lines) reads tt
+      (λ s. ∥∥₁_map (is s) (λ (h : IsListing terms caller project day 1 state lines). permitted_reply ruling k Lists (Listing lines) permit (lines, h, refl)))
+      (λ s. inr (λ list change. change, refl)) (listing_asks k permit).0

@@ -34,60 +34,44 @@ use Rattle.reg_desk.proofs.Clean.{clean_formed, clean_keeps}
 abbrev StandsFrom : ℕ → List DataRow → ProjectRow → Type 0
 StandsFrom number rows project = (k : ℕ) × (project.number ≡ number + k) × HasAt rows (IsLineOf (project_line project)) k
 
-some_is : (a b : ProjectRow) → Some a ≡ Some b → a ≡ b
-some_is a b e = ap (λ (o : Option ProjectRow). unwrap o) e
-  where
-    unwrap : Option ProjectRow → ProjectRow
-    unwrap (Some x) = x
-    unwrap None = a
+-- what is found from this row on: none of PROJ, or the row at its number
+abbrev IsFound : ℕ → List DataRow → Option ProjectRow → Type 0
+IsFound number rows None = (n : ℕ) → HasAt rows IsOfProject n → ⊥
+IsFound number rows (Some project) = StandsFrom number rows project
 
-found_line : (number : ℕ) (headings : List ℕ) (rows : List KeptRow) (found : List DataRow) (project : ProjectRow) → AllZip IsLineOf (plain_lines headings rows) found → project_from number headings rows ≡ Some project → StandsFrom number found project
-found_line number headings [] found project zip is = absurd cc
-found_line number headings (row ∷ rows) found project zip is =
-    go (row.kind == 1) (row.kind == 4) (bytes_eq row.group (codes "PROJ")) refl (λ m heads more z e. found_line m heads rows more project z e) found zip is
+none_later : (number : ℕ) (r : DataRow) (rows : List DataRow) → (IsOfProject r → ⊥) → IsFound (number + 1) rows None → IsFound number (r ∷ rows) None
+none_later number r rows other none zero at = other (of_first r rows IsOfProject at)
+none_later number r rows other none (suc n) at = none n (of_later r rows IsOfProject n at)
+
+found_later : (number : ℕ) (r : DataRow) (rows : List DataRow) (o : Option ProjectRow) → (IsOfProject r → ⊥) → IsFound (number + 1) rows o → IsFound number (r ∷ rows) o
+found_later number r rows None other found = none_later number r rows other found
+found_later number r rows (Some project) other found =
+    (suc found.0, found.1 ∙ omega arith, at_later r rows (IsLineOf (project_line project)) found.0 found.2)
+
+found_line : (number : ℕ) (headings : List ℕ) (rows : List KeptRow) (found : List DataRow) → AllZip IsLineOf (plain_lines headings rows) found
+    → IsFound number found (project_from number headings rows)
+found_line number headings [] [] zip = λ n at. omega (arith, at.1.0)
+found_line number headings [] (r ∷ found) zip = absurd zip
+found_line number headings (row ∷ rows) found zip =
+    go (row.kind == 1) (row.kind == 4) (bytes_eq row.group (codes "PROJ")) refl (λ m heads more z. found_line m heads rows more z) found zip
   where
     go : (a b c : Bool) → bytes_eq row.group (codes "PROJ") ≡ c
-        → ((m : ℕ) (heads : List ℕ) (more : List DataRow) → AllZip IsLineOf (plain_lines heads rows) more → project_from m heads rows ≡ Some project → StandsFrom m more project)
+        → ((m : ℕ) (heads : List ℕ) (more : List DataRow) → AllZip IsLineOf (plain_lines heads rows) more → IsFound m more (project_from m heads rows))
         → (found : List DataRow) → AllZip IsLineOf (if a then plain_lines row.line rows else (if b then plain_row headings row ∷ plain_lines headings rows else plain_lines headings rows)) found
-        → (if a then project_from number row.line rows else (if b then (if c then Some (record { number = number; headings = headings; line = row.line }) else project_from (number + 1) headings rows) else project_from number headings rows)) ≡ Some project
-        → StandsFrom number found project
-    go true b c e more found z is = more number row.line found z is
-    go false false c e more found z is = more number headings found z is
-    go false true c e more [] z is = absurd z
-    go false true true e more (r ∷ found) z is =
-        let same : record { number = number; headings = headings; line = row.line } ≡ project = some_is _ project is in
+        → IsFound number found (if a then project_from number row.line rows else (if b
+        then (if c then Some (record { number = number; headings = headings; line = row.line }) else project_from (number + 1) headings rows) else project_from number headings rows))
+    go true b c e more found z = more number row.line found z
+    go false false c e more found z = more number headings found z
+    go false true true e more (r ∷ found) z =
         let line : IsLineOf (project_line (record { number = number; headings = headings; line = row.line })) r =
-        record { group = sym ((bytes_eq-Decides row.group (codes "PROJ")).0 e) ∙ z.0.group; headings = z.0.headings; fields = z.0.fields } in (
-          0,
-          ap (λ (p : ProjectRow). p.number) (sym same) ∙ omega arith,
-          at_first r found (IsLineOf (project_line project)) (subst (λ (p : ProjectRow). IsLineOf (project_line p) r) same line),
-        )
-    go false true false e more (r ∷ found) z is =
-        let later = more (number + 1) headings found z.1 is in (suc later.0, later.1 ∙ omega arith, at_later r found (IsLineOf (project_line project)) later.0 later.2)
-
-none_found : (number : ℕ) (headings : List ℕ) (rows : List KeptRow) (found : List DataRow) → AllZip IsLineOf (plain_lines headings rows) found → project_from number headings rows ≡ None → (n : ℕ) → HasAt found IsOfProject n → ⊥
-none_found number headings [] [] zip is n at = omega (arith, at.1.0)
-none_found number headings [] (r ∷ found) zip is n at = zip
-none_found number headings (row ∷ rows) found zip is n at =
-    go (row.kind == 1) (row.kind == 4) (bytes_eq row.group (codes "PROJ")) refl (λ m heads more z e k has. none_found m heads rows more z e k has) found zip is n at
-  where
-    go : (a b c : Bool) → bytes_eq row.group (codes "PROJ") ≡ c
-        → ((m : ℕ) (heads : List ℕ) (more : List DataRow) → AllZip IsLineOf (plain_lines heads rows) more → project_from m heads rows ≡ None → (k : ℕ) → HasAt more IsOfProject k → ⊥)
-        → (found : List DataRow) → AllZip IsLineOf (if a then plain_lines row.line rows else (if b then plain_row headings row ∷ plain_lines headings rows else plain_lines headings rows)) found
-        → (if a then project_from number row.line rows else (if b then (if c then Some (record { number = number; headings = headings; line = row.line }) else project_from (number + 1) headings rows) else project_from number headings rows)) ≡ None
-        → (n : ℕ) → HasAt found IsOfProject n → ⊥
-    go true b c e more found z is n at = more number row.line found z is n at
-    go false false c e more found z is n at = more number headings found z is n at
-    go false true c e more [] z is n at = z
-    go false true true e more (r ∷ found) z is n at = absurd cc
-    go false true false e more (r ∷ found) z is zero at = true≢false (sym ((bytes_eq-Decides row.group (codes "PROJ")).1 (z.0.group ∙ of_first r found IsOfProject at)) ∙ e)
-    go false true false e more (r ∷ found) z is (suc n) at = more (number + 1) headings found z.1 is n (of_later r found IsOfProject n at)
+        record { group = sym ((bytes_eq-Decides row.group (codes "PROJ")).0 e) ∙ z.0.group; headings = z.0.headings; fields = z.0.fields } in
+        (0, omega arith, at_first r found (IsLineOf (project_line (record { number = number; headings = headings; line = row.line }))) line)
+    go false true false e more (r ∷ found) z =
+        found_later number r found (project_from (number + 1) headings rows) (λ is. true≢false (sym ((bytes_eq-Decides row.group (codes "PROJ")).1 (z.0.group ∙ is)) ∙ e))
+        (more (number + 1) headings found z.1)
+    go false true c e more [] z = absurd z
 
 -- ---- Rule 13: a file without findings has one row of PROJ
-
-nothing_below : (k : ℕ) → (0 < k → ⊥) → k ≡ 0
-nothing_below zero none = refl
-nothing_below (suc k) none = absurd (none (omega arith))
 
 -- it is the first of its group
 project_first : (file : CheckedFile) → IsClean file → (n : ℕ) (r : DataRow) (p : IsRowOfGroup (contents_of file.groups) n r) → r.group ≡ codes "PROJ" → (p.group.name ≡ codes "PROJ") × (p.place ≡ 0)
@@ -95,7 +79,8 @@ project_first file clean n r p of_project =
     let name : p.group.name ≡ codes "PROJ" = ap (λ (x : DataRow). x.group) p.same ∙ of_project in
     let keeps = (clean_keeps file.given file.bytes (file_of file) clean.file).0 in
     let only = (keeps.groups p.group (p.group_place, p.of_file.0, p.of_file.1)).only_rows p.place p.fields (at_contained p.group.rows p.fields (p.place, p.of_group.0, p.of_group.1)) in
-    (name, nothing_below p.place (λ lt. only.one_project (name, lt)))
+    let none : 0 < p.place → ⊥ = λ lt. only.one_project (name, lt) in
+    (name, omega arith)
 
 -- and its group occurs once
 one_place : (file : CheckedFile) → IsClean file → (i j : ℕ) (g h : Contents) → At (contents_of file.groups) i g → At (contents_of file.groups) j h → g.name ≡ h.name → i < j → ⊥
@@ -106,12 +91,6 @@ one_place file clean i j g h at_i at_j same lt =
     let second = at_map (λ (x : Contents). x.name) (contents_of file.groups) j h at_j in
     once_apart names i j g.name h.name once lt (at_contained names g.name (i, first.0, first.1)) (at_contained names h.name (j, second.0, second.1)) same
 
-same_number : (i j : ℕ) → (i < j → ⊥) → (j < i → ⊥) → i ≡ j
-same_number zero zero a b = refl
-same_number zero (suc j) a b = absurd (a (omega arith))
-same_number (suc i) zero a b = absurd (b (omega arith))
-same_number (suc i) (suc j) a b = ap suc (same_number i j (λ lt. a (omega (arith, lt))) (λ lt. b (omega (arith, lt))))
-
 one_project : (file : CheckedFile) → IsClean file → (n m : ℕ) → HasAt (data_rows (contents_of file.groups)) IsOfProject n → HasAt (data_rows (contents_of file.groups)) IsOfProject m → n ≡ m
 one_project file clean n m a b =
     let contents = contents_of file.groups in
@@ -120,9 +99,9 @@ one_project file clean n m a b =
     let first = project_first file clean n a.0 p a.2 in
     let second = project_first file clean m b.0 q b.2 in
     let names : p.group.name ≡ q.group.name = first.0 ∙ sym second.0 in
-    let place : p.group_place ≡ q.group_place = same_number p.group_place q.group_place
-    (one_place file clean p.group_place q.group_place p.group q.group p.of_file q.of_file names)
-    (one_place file clean q.group_place p.group_place q.group p.group q.of_file p.of_file (sym names)) in
+    let below = one_place file clean p.group_place q.group_place p.group q.group p.of_file q.of_file names in
+    let above = one_place file clean q.group_place p.group_place q.group p.group q.of_file p.of_file (sym names) in
+    let place : p.group_place ≡ q.group_place = omega arith in
     p.number ∙ ap (λ (k : ℕ). k + p.place) (ap (rows_before contents) place) ∙ ap (λ (k : ℕ). rows_before contents q.group_place + k) (first.1 ∙ sym second.1) ∙ sym q.number
 
 -- ---- what it says
@@ -130,13 +109,15 @@ one_project file clean n m a b =
 -- the row of PROJ of a file without findings is at its number
 its_line : (file : CheckedFile) → IsClean file → (project : ProjectRow) → Some project ≡ project_of (kept_rows file.groups) → HasAt (data_rows (contents_of file.groups)) (IsLineOf (project_line project)) project.number
 its_line file clean project is =
-    let found = found_line 0 [] (kept_rows file.groups) (data_rows (contents_of file.groups)) project (lines_spelled file.bytes file.groups clean.groups) (sym is) in
+    let found = subst (IsFound 0 (data_rows (contents_of file.groups))) (sym is)
+    (found_line 0 [] (kept_rows file.groups) (data_rows (contents_of file.groups)) (lines_spelled file.bytes file.groups clean.groups)) in
     subst (λ (k : ℕ). HasAt (data_rows (contents_of file.groups)) (IsLineOf (project_line project)) k) (sym (found.1 ∙ omega arith)) found.2
 
 -- there is none
 pub open_none : (look : Look) (file : CheckedFile) (found : Option ProjectRow) → IsClean file → found ≡ None → found ≡ project_of (kept_rows file.groups) → IsOpen look file None
 open_none look file found clean none is = λ shows.
-    none_found 0 [] (kept_rows file.groups) (data_rows (contents_of file.groups)) (lines_spelled file.bytes file.groups clean.groups) (sym is ∙ none) shows.0 shows.1
+    subst (IsFound 0 (data_rows (contents_of file.groups))) (sym is ∙ none)
+    (found_line 0 [] (kept_rows file.groups) (data_rows (contents_of file.groups)) (lines_spelled file.bytes file.groups clean.groups)) shows.0 shows.1
 
 -- it is not permitted
 pub open_hidden : (look : Look) (file : CheckedFile) (project : ProjectRow) (may : Bool) → IsClean file → Some project ≡ project_of (kept_rows file.groups) → MayBeSeen look (project_line project) may → may ≡ false → IsOpen look file None

@@ -1,9 +1,8 @@
 -- A list of requests, from the answer to each.
-use Rattle.std.proofs.Common.{◌≡◌, ℕ, zero, suc, ◌<◌, ◌≤◌, length, arith, Bool, true, false, cond, Option, Some, None, List, [], ◌∷◌, ◌++◌, map, take, get_or, refl, sym, ap, subst, ◌∙◌, inl, inr}
+use Rattle.std.proofs.Common.{◌≡◌, ℕ, zero, suc, ◌<◌, length, arith, Bool, true, false, cond, Option, Some, None, List, [], ◌∷◌, ◌++◌, map, take, get_or, refl, sym, ap, subst, ◌∙◌, inl, inr}
 use Rattle.std.specs.List.{find, zip}
 use Rattle.std.proofs.lemmas.Bool.{true≢false, cases_Bool}
 use Rattle.std.proofs.Props.{props}
-use Rattle.ags_dict.specs.Entries.{Entries}
 use Rattle.std.proofs.Math.Logic.{∥∥₁_map, ∥∥₁_elim}
 use Rattle.std.specs.Prelude.{option_map}
 use Rattle.reg_policy.specs.declared.rule.Rule.{Rule}
@@ -25,21 +24,19 @@ use Rattle.reg_desk.proofs.Bodies.{where_true, where_false}
 stays_failed : {K : Type 0} (keep : Ghosts K) (old new : Desk K keep) (requests : List Asked) (answers : List Answer) → AreAnsweredBy keep old requests answers new → old.failed ≡ true
     → AreFailed requests answers × (new.keep ≡ old.keep)
 stays_failed {K = K} keep old new [] [] by failed = (tt, ap (λ (d : Desk K keep). d.keep) by)
-stays_failed keep old new [] (a ∷ answers) by failed = absurd by
-stays_failed keep old new (r ∷ requests) [] by failed = absurd by
 stays_failed keep old new (r ∷ requests) (a ∷ answers) by failed =
     let stuck = by.1.stuck failed in
     let rest = stays_failed keep by.0 new requests answers by.2 (by.1.failed ∙ ap is_failed stuck.0) in
     ((stuck.0, rest.0), rest.1 ∙ stuck.1)
+stays_failed keep old new requests answers by failed = absurd by
 
 -- a store that is sound afterwards was sound before
 was_sound : {K : Type 0} (keep : Ghosts K) (old new : Desk K keep) (requests : List Asked) (answers : List Answer) → AreAnsweredBy keep old requests answers new → keep.is_sound new.keep → keep.is_sound old.keep
 was_sound {K = K} keep old new [] [] by sound = subst (λ (d : Desk K keep). keep.is_sound d.keep) by sound
-was_sound keep old new [] (a ∷ answers) by sound = absurd by
-was_sound keep old new (r ∷ requests) [] by sound = absurd by
 was_sound keep old new (r ∷ requests) (a ∷ answers) by sound =
     let mid = was_sound keep by.0 new requests answers by.2 sound in
     elim (cases_Bool old.failed) [ inl failed ↦ subst keep.is_sound (by.1.stuck failed).1 mid | inr works ↦ (by.1.served works).sound mid ]
+was_sound keep old new requests answers by sound = absurd by
 
 -- ---- the run
 
@@ -81,8 +78,7 @@ runs_fail keep rules old new r a requests answers settled unbroken works sound f
 runs_on : {K : Type 0} (keep : Ghosts K) (rules : List Rule) (old mid new : K) (r : Asked) (a : Answer) (requests : List Asked) (answers : List Answer) → keep.is_sound mid → is_failed a ≡ false
     → Serves keep rules r old mid a → IsAnswer (terms_at keep rules old) (keep.deposits old) r a → Runs keep rules mid new requests answers → Runs keep rules old new (r ∷ requests) (a ∷ answers)
 runs_on keep rules old mid new r a requests answers sound lives serves is rest =
-    let terms : terms_at keep rules mid ≡ terms_at keep rules old =
-    ap (λ (d : Entries). record { policy = rules; dictionary = d; limit = keep.limit mid }) serves.same_dictionary ∙ ap (λ (l : ℕ). record { policy = rules; dictionary = keep.dictionary old; limit = l }) serves.same_limit in
+    let terms : terms_at keep rules mid ≡ terms_at keep rules old = cc in
     let later : failing (r ∷ requests) (a ∷ answers) ≡ failing requests answers = skip (is_failed a) lives (find (λ p. is_failed p.1) (zip requests answers)) in
     record {
       last = rest.last;
@@ -110,8 +106,6 @@ desk_runs {K = K} keep old new [] [] settled unbroken by sound works =
     let fine : keep.has_failed old.keep ≡ false = sym (old.exact was) ∙ works in
     subst (λ (d : Desk K keep). ∥ Runs keep old.policy old.keep d.keep [] [] ∥₁) (sym by)
     ∣ record { last = keep.deposits old.keep; answered = refl; kept = λ e. refl; left = λ list may. inl (settled old.keep list was fine may); whole = unbroken old.keep was fine } ∣₁
-desk_runs keep old new [] (a ∷ answers) settled unbroken by sound works = absurd by
-desk_runs keep old new (r ∷ requests) [] settled unbroken by sound works = absurd by
 desk_runs {K = K} keep old new (r ∷ requests) (a ∷ answers) settled unbroken by sound works =
     let mid = by.0 in
     let then_sound = was_sound keep mid new requests answers by.2 sound in
@@ -126,6 +120,7 @@ desk_runs {K = K} keep old new (r ∷ requests) (a ∷ answers) settled unbroken
           ∥∥₁_map (desk_runs keep mid new requests answers settled unbroken by.2 sound (by.1.failed ∙ lives)) (λ (rest : Runs keep mid.policy mid.keep new.keep requests answers).
           runs_on keep old.policy old.keep mid.keep new.keep r a requests answers then_sound lives serves is (subst (λ (rules : List Rule). Runs keep rules mid.keep new.keep requests answers) by.1.policy rest))
     ])
+desk_runs keep old new requests answers settled unbroken by sound works = absurd by
 
 -- ---- the loop
 
@@ -133,17 +128,10 @@ desk_runs {K = K} keep old new (r ∷ requests) (a ∷ answers) settled unbroken
 pub answered_more : {K : Type 0} (keep : Ghosts K) (old mid new : Desk K keep) (requests : List Asked) (answers : List Answer) (r : Asked) (a : Answer)
     → AreAnsweredBy keep old requests answers mid → AnsweredBy keep mid r a new → AreAnsweredBy keep old (requests ++ r ∷ []) (answers ++ a ∷ []) new
 answered_more {K = K} keep old mid new [] [] r a h by = (new, subst (λ (d : Desk K keep). AnsweredBy keep d r a new) h by, refl)
-answered_more keep old mid new [] (b ∷ answers) r a h by = absurd h
-answered_more keep old mid new (q ∷ requests) [] r a h by = absurd h
 answered_more keep old mid new (q ∷ requests) (b ∷ answers) r a h by = (h.0, h.1, answered_more keep h.0 mid new requests answers r a h.2 by)
+answered_more keep old mid new requests answers r a h by = absurd h
 
 pub asked_more : (requests : List Request) (i : ℕ) (d : Request) → i < length requests → map asked (take (suc i) requests) ≡ map asked (take i requests) ++ asked (get_or requests i d) ∷ []
 asked_more [] i d lt = absurd (omega (arith, lt))
 asked_more (r ∷ requests) zero d lt = refl
 asked_more (r ∷ requests) (suc i) d lt = ap (λ (l : List Asked). asked r ∷ l) (asked_more requests i d (omega (arith, lt)))
-
-pub take_whole : (requests : List Request) (i : ℕ) → length requests ≤ i → take i requests ≡ requests
-take_whole [] zero le = refl
-take_whole [] (suc i) le = refl
-take_whole (r ∷ requests) zero le = absurd (omega (arith, le))
-take_whole (r ∷ requests) (suc i) le = ap (λ (l : List Request). r ∷ l) (take_whole requests i (omega (arith, le)))

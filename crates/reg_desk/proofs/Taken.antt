@@ -1,9 +1,9 @@
 -- A body is taken exactly where the reply is the receipt of a new number, and a deposit is withdrawn exactly where the
 -- reply is so.
-use Rattle.std.proofs.Common.{◌≡◌, ℕ, suc, ◌+◌, ◌≤◌, ◌<◌, Bool, true, false, cond, Option, Some, None, List, [], ◌∷◌, length, refl, sym, ap, subst, ◌∙◌, arith}
+use Rattle.std.proofs.Common.{◌≡◌, ℕ, ◌+◌, ◌≤◌, ◌<◌, Bool, true, false, cond, Option, Some, None, List, [], ◌∷◌, length, refl, sym, ap, subst, ◌∙◌, arith}
 use Rattle.std.specs.Prelude.{ℤ, nat_lt, MatchBool}
 use Rattle.std.proofs.lemmas.Bool.{cond-true, lt-ltb, le-ltb, ltb-true, ltb-false}
-use Rattle.std.proofs.lemmas.Option.{same_Some}
+use Rattle.std.proofs.lemmas.Option.{slice_get_within}
 use Rattle.ags_rows.specs.declared.finding.Finding.{Finding}
 use Rattle.ags_rows.specs.declared.TheConstants.{LIMIT}
 use Rattle.ags_check.specs.Findings.{Findings as AreFindings}
@@ -12,17 +12,17 @@ use Rattle.reg_policy.specs.declared.callers.Caller.{Caller}
 use Rattle.reg_policy.specs.declared.subject.Decision.{Decision}
 use Rattle.reg_policy.specs.declared.subject.Decision.TheVariants.{Permit, Deny}
 use Rattle.reg_policy.specs.declared.subject.Verb.TheVariants as verbs
-use Rattle.reg_store.specs.Sent.{Sent, is_repeat}
 use Rattle.reg_store.specs.Deposit.{Deposit, sents}
 use Rattle.reg_store.proofs.Lemmas.{length_sents}
 use Rattle.reg_desk.specs.Asked.{deposit, withdraw}
 use Rattle.reg_desk.specs.declared.answer.Answer.{Answer}
 use Rattle.reg_desk.specs.declared.answer.Answer.TheVariants.{Receipt, Findings, Denied, Unknown, TooLarge, Full, Withdrawn}
 use Rattle.reg_desk.specs.Machine.{Terms, decided, OrDenied, OrFound, OrRefused, first_equal, receipt_of, held, is_own, withdrawal_of, IsReply, IsTaken, IsWithdrawn}
+use Rattle.reg_desk.proofs.Firsts.{first_at}
 use Rattle.reg_desk.specs.Laws.{TakenIsReceived, WithdrawnIsReplied}
 
 -- what holds of the receipt
-abbrev IsReceipt : Terms → List Deposit → Caller → List ℕ → ℤ → List ℕ → Answer → Type 0
+abbrev pub IsReceipt : Terms → List Deposit → Caller → List ℕ → ℤ → List ℕ → Answer → Type 0
 IsReceipt terms state caller project embargo bytes r =
     r ≡ receipt_of terms embargo (length state) (first_equal 1 caller.firm project bytes (sents state))
 
@@ -72,16 +72,6 @@ not_refused d terms bytes P r h denied large findings =
     let clean = not_found small.1.0 P r small.1.2 findings in
     ((permit.0, permit.1), small.0, subst (AreFindings terms.dictionary bytes) clean.0 small.1.1, clean.1)
 
-first_step : (t : Bool) (n : ℕ) (x : ℤ) (more : Option (ℕ × ℤ)) (k : ℕ) (e : ℤ) (m : ℕ) → cond t (Some (n, x)) more ≡ Some (k, e) → (more ≡ Some (k, e) → k < n + 1 + m) → k < n + suc m
-first_step true n x more k e m h rest = let same : n ≡ k = ap (λ (p : ℕ × ℤ). p.0) (same_Some (n, x) (k, e) h) in omega (arith, same)
-first_step false n x more k e m h rest = let lt = rest h in omega (arith, lt)
-
--- the number of an equal deposit is that of a deposit held
-first_held : (firm project bytes : List ℕ) (n : ℕ) (state : List Sent) (k : ℕ) (e : ℤ) → first_equal n firm project bytes state ≡ Some (k, e) → k < n + length state
-first_held firm project bytes n [] k e h = absurd cc
-first_held firm project bytes n (d ∷ state) k e h =
-    first_step (is_repeat firm project bytes d) n d.embargo (first_equal (n + 1) firm project bytes state) k e (length state) h (first_held firm project bytes (n + 1) state k e)
-
 room_for : (t : Bool) (number : ℕ) (embargo : ℤ) → cond t (Receipt number embargo) Full ≡ Receipt number embargo → t ≡ true
 room_for true number embargo h = refl
 room_for false number embargo h = absurd cc
@@ -102,7 +92,8 @@ taken terms state caller project embargo bytes day reply h is =
     (λ l e. cc) in
     let first = first_equal 1 caller.firm project bytes (sents state) in
     let held_low : (k : ℕ) (e : ℤ) → first ≡ Some (k, e) → k < 1 + length state =
-    λ k e at. omega (arith, first_held caller.firm project bytes 1 (sents state) k e at, length_sents state) in
+    λ k e at. let place = first_at caller.firm project bytes 1 (sents state) k e at in
+    omega (arith, place.1, slice_get_within (sents state) place.0 _ place.2, length_sents state) in
     let new = new_number terms embargo (length state) first held_low (sym fine.3 ∙ is) in
     (fine.0, ltb-false LIMIT (length bytes) fine.1, fine.2, new.0, new.1)
 

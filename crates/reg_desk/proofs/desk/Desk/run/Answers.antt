@@ -1,11 +1,12 @@
 use Rattle.std.proofs.Common.{◌≡◌, ◌∙◌, sym, ap, subst, refl, ◌+◌, List, [], ◌∷◌, ◌++◌, map, take, suc, arith}
 use Rattle.std.proofs.Math.Logic.{∥∥₁_map}
+use Rattle.std.proofs.lemmas.List.{take_all}
 use Rattle.reg_desk.specs.Asked.{Asked, asked}
 use Rattle.reg_desk.specs.declared.answer.Answer.{Answer}
 use Rattle.reg_desk.specs.declared.request.Request.{Request}
 use Rattle.reg_desk.specs.Desks.{AreAnsweredBy}
 use Rattle.reg_desk.specs.Running.{Runs}
-use Rattle.reg_desk.proofs.Running.{desk_runs, answered_more, asked_more, take_whole}
+use Rattle.reg_desk.proofs.Running.{desk_runs, answered_more, asked_more}
 use Rattle.reg_desk.proofs.Lasting.{receipts_last}
 use Rattle.reg_desk.proofs.desk.Desk.run.Goals as goal
 
@@ -39,7 +40,7 @@ loop-request-preserved g c =
 pub returns-clause-answered : goal.returns-clause-answered
 returns-clause-answered g c =
     subst (λ (l : List Request). AreAnsweredBy g.K.Keep c.args.self.now (map asked l) c.loop-request.answers.items c.loop-request.self)
-    (take_whole c.args.requests.now c.loop-request.request-index c.loop-request-test.false) c.loop-request.invariant.answered
+    (take_all c.loop-request.request-index c.args.requests.now c.loop-request-test.false) c.loop-request.invariant.answered
 
 pub returns-clause-runs : goal.returns-clause-runs
 returns-clause-runs g c =

@@ -1,4 +1,4 @@
-use Rattle.std.proofs.Common.{◌∙◌, sym, ap, subst, List, ℕ, Err, refl}
+use Rattle.std.proofs.Common.{◌∙◌, sym, ap, subst, List, ℕ, Err}
 use Rattle.reg_desk.specs.Asked.{extract, names_in}
 use Rattle.reg_desk.specs.declared.answer.Answer.TheVariants.{Unknown, Text}
 use Rattle.reg_desk.specs.Extract.{IsOfRows}
@@ -31,14 +31,14 @@ pub returns-in-Ok-None-clause-serves : goal.returns-in-Ok-None-clause-serves
 returns-in-Ok-None-clause-serves g c =
     let drawn = rw c.in-Ok-None.field-0-is at c.in-Ok-None.ensures.drawn in
     extract_replies g.K.Keep c.args.policy.now c.args.caller.now c.args.project.now c.args.number (names_in c.args.groups.now) c.args.day c.args.keep.now c.draw.new.keep _ Unknown
-    (sym c.decide_request.ensures ∙ c.in-Permit.is) c.in-Ok-None.ensures.reads refl drawn
+    (sym c.decide_request.ensures ∙ c.in-Permit.is) c.in-Ok-None.ensures.reads tt drawn
 
 pub returns-in-Ok-Some-clause-serves : goal.returns-in-Ok-Some-clause-serves
 returns-in-Ok-Some-clause-serves g c =
     let drawn = rw c.in-Ok-Some.field-0-is at c.in-Ok-Some.ensures.drawn in
     subst (λ (t : List ℕ). Serves g.K.Keep c.args.policy.now (extract c.args.caller.now c.args.project.now c.args.number (names_in c.args.groups.now) c.args.day) c.args.keep.now c.draw.new.keep (Text t)) (sym c.from_vec.ensures)
     (extract_replies g.K.Keep c.args.policy.now c.args.caller.now c.args.project.now c.args.number (names_in c.args.groups.now) c.args.day c.args.keep.now c.draw.new.keep _ (Text c.in-Ok-Some.text.items)
-    (sym c.decide_request.ensures ∙ c.in-Permit.is) c.in-Ok-Some.ensures.reads refl drawn)
+    (sym c.decide_request.ensures ∙ c.in-Permit.is) c.in-Ok-Some.ensures.reads tt drawn)
 
 pub returns-in-Deny-clause-rows : goal.returns-in-Deny-clause-rows
 returns-in-Deny-clause-rows g c = tt
