@@ -1,6 +1,7 @@
 -- What is found is what was asked for.
 use Rattle.std.proofs.Common.{◌≡◌, ℕ, ◌<◌, List, [], ◌∷◌, length, get_or, map, refl, sym, ap, subst, ◌∙◌, arith, inl, inr, Contains, Some, codes}
 use Rattle.std.specs.List.Sorted.{IsStrictlyIncreasing}
+use Rattle.std.proofs.lemmas.List.Elements.{Contains-get_or}
 use Rattle.ags_dict.specs.Entries.{Entries, parent_of}
 use Rattle.ags_rows.specs.Parts.{parts_at}
 use Rattle.ags_links.specs.Lookups.{Lookup, FindsAsked}
@@ -38,16 +39,6 @@ same_made f g (y ∷ xs) h =
 
 -- ---- what is found is listed
 
-pub lists_found : (lookup : Lookup) (Has : ℕ → List ℕ → Type 0) (text numbers : List ℕ) (IsOne : ℕ → Type 0) → Finds lookup Has → numbers ≡ found lookup text
-    → ((n : ℕ) → Has n text → IsOne n) → ((n : ℕ) → IsOne n → Has n text) → ListsRows numbers IsOne
-lists_found lookup Has text numbers IsOne finds e to from = record {
-  rising = subst IsStrictlyIncreasing (sym e) (finds.rising text);
-  exact = λ n. (
-    λ h. to n ((finds.exact text n).0 (subst (λ l. Contains l n) e h)),
-    λ h. subst (λ l. Contains l n) (sym e) ((finds.exact text n).1 (from n h)),
-  );
-}
-
 -- what is found at a text that is asked for is listed
 lists_asked : (lookup : Lookup) (IsAsked : List ℕ → Type 0) (Has : ℕ → List ℕ → Type 0) (text numbers : List ℕ) (IsOne : ℕ → Type 0) → FindsAsked lookup IsAsked Has → IsAsked text → numbers ≡ found lookup text
     → ((n : ℕ) → Has n text → IsOne n) → ((n : ℕ) → IsOne n → Has n text) → ListsRows numbers IsOne
@@ -59,10 +50,12 @@ lists_asked lookup IsAsked Has text numbers IsOne finds asked e to from = record
   );
 }
 
--- ---- parents
+-- what is found at a text is listed
+pub lists_found : (lookup : Lookup) (Has : ℕ → List ℕ → Type 0) (text numbers : List ℕ) (IsOne : ℕ → Type 0) → Finds lookup Has → numbers ≡ found lookup text
+    → ((n : ℕ) → Has n text → IsOne n) → ((n : ℕ) → IsOne n → Has n text) → ListsRows numbers IsOne
+lists_found lookup Has text numbers IsOne finds = lists_asked lookup (λ q. Unit {0}) Has text numbers IsOne (record { rising = finds.rising; exact = λ q asked. finds.exact q }) tt
 
-pub some_same : (p q : List ℕ) → Some p ≡ Some q → p ≡ q
-some_same p q e = cc
+-- ---- parents
 
 -- a row that has the entries in the row's parent group is a parent row, and the other way round
 pub parents_listed : (entries : Entries) (rows : List DataRow) (n : ℕ) (r : DataRow) (names : List (List ℕ)) (lookup : Lookup) (IsAsked : List ℕ → Type 0) (text numbers : List ℕ) → At rows n r
@@ -83,36 +76,19 @@ parents_listed entries rows n r names lookup IsAsked text numbers row headings f
 
 -- ---- keys
 
-head_same : (p q : List ℕ) (ps qs : List (List ℕ)) → p ∷ ps ≡ q ∷ qs → p ≡ q
-head_same p q ps qs e = cc
-
-tail_same : (p q : List ℕ) (ps qs : List (List ℕ)) → p ∷ ps ≡ q ∷ qs → ps ≡ qs
-tail_same p q ps qs e = cc
-
-cons_same : (p q : List ℕ) (ps qs : List (List ℕ)) → p ≡ q → ps ≡ qs → p ∷ ps ≡ q ∷ qs
-cons_same p q ps qs e es = cc
-
-contains_first : (numbers : List ℕ) → 0 < length numbers → Contains numbers (get_or numbers 0 0)
-contains_first [] lt = absurd (omega arith)
-contains_first (n ∷ numbers) lt = contains_head n numbers
-
-pub key_found : (entries : Entries) (rows : List DataRow) (n : ℕ) (r : DataRow) (lookup : Lookup) (text : List ℕ) → At rows n r → Finds lookup (HasText rows (HasKeyText entries)) → text ≡ key_text (r.group ∷ key_of entries r)
-    → Contains (found lookup text) n
-key_found entries rows n r lookup text row finds spelled = (finds.exact text n).1 (r, row, sym spelled)
-
 pub first_found : (entries : Entries) (rows : List DataRow) (n : ℕ) (r : DataRow) (lookup : Lookup) (text numbers : List ℕ) → At rows n r → Finds lookup (HasText rows (HasKeyText entries)) → text ≡ key_text (r.group ∷ key_of entries r)
     → numbers ≡ found lookup text → 0 < length numbers → IsFirstOfKey rows entries n (get_or numbers 0 0)
 first_found entries rows n r lookup text numbers row finds spelled e some =
     let first = get_or numbers 0 0 in
-    let at_text = (finds.exact text first).0 (subst (λ l. Contains l first) e (contains_first numbers some)) in
+    let at_text = (finds.exact text first).0 (subst (λ l. Contains l first) e (Contains-get_or numbers 0 0 some)) in
     let s = at_text.0 in
-    let same = key_text_same (s.group ∷ key_of entries s) (r.group ∷ key_of entries r) (at_text.2 ∙ spelled) in (
-      (r, s, row, at_text.1, (head_same s.group r.group (key_of entries s) (key_of entries r) same, tail_same s.group r.group (key_of entries s) (key_of entries r) same)),
+    let same : s.group ∷ key_of entries s ≡ r.group ∷ key_of entries r = key_text_same (s.group ∷ key_of entries s) (r.group ∷ key_of entries r) (at_text.2 ∙ spelled) in (
+      (r, s, row, at_text.1, (cc, cc)),
       λ k h.
           let is : h.0 ≡ r = one_at rows n h.0 r h.2 row in
           let key : HasKeyOf entries r h.1 = subst (λ q. HasKeyOf entries q h.1) is h.4 in
-          let text_of : key_text (h.1.group ∷ key_of entries h.1) ≡ text = ap key_text (cons_same h.1.group r.group (key_of entries h.1) (key_of entries r) key.0 key.1) ∙ sym spelled in
-          first_is_least numbers k (subst IsStrictlyIncreasing (sym e) (finds.rising text)) (subst (λ l. Contains l k) (sym e) ((finds.exact text k).1 (h.1, h.3, text_of))),
+          let keys : h.1.group ∷ key_of entries h.1 ≡ r.group ∷ key_of entries r = cc (key.0, key.1) in
+          first_is_least numbers k (subst IsStrictlyIncreasing (sym e) (finds.rising text)) (subst (λ l. Contains l k) (sym e) ((finds.exact text k).1 (h.1, h.3, ap key_text keys ∙ sym spelled))),
     )
 
 -- ---- parts of record links
@@ -151,9 +127,6 @@ one_key_text rows entries lookup finds n text other h k =
     let is : r.0 ≡ s.0 = one_at rows n r.0 s.0 r.1 s.1 in
     sym r.2 ∙ ap (λ (q : DataRow). key_text (q.group ∷ key_of entries q)) is ∙ s.2
 
-some_first : (numbers : List ℕ) (n : ℕ) → Contains numbers n → 0 < length numbers
-some_first numbers n h = omega (arith, h.1)
-
 pub firsts_hold : (rows : List DataRow) (entries : Entries) (lookup : Lookup) (firsts : List ℕ) → Finds lookup (rows_keyed rows entries) → length firsts ≡ length rows → AreFirstWith lookup firsts → AreFirstsOfKeys rows entries firsts
 firsts_hold rows entries lookup firsts finds size first = (size, λ n lt. at n lt) where
   at : (n : ℕ) → n < length rows → IsFirstOfKey rows entries n (get_or firsts n 0)
@@ -161,5 +134,5 @@ firsts_hold rows entries lookup firsts finds size first = (size, λ n lt. at n l
       let row = some_at rows n lt in
       let r = row.0 in
       let text = key_text (r.group ∷ key_of entries r) in
-      let has = key_found entries rows n r lookup text row.1 finds refl in
-      subst (IsFirstOfKey rows entries n) (sym (first text n has)) (first_found entries rows n r lookup text (found lookup text) row.1 finds refl refl (some_first (found lookup text) n has))
+      let has : Contains (found lookup text) n = (finds.exact text n).1 (r, row.1, refl) in
+      subst (IsFirstOfKey rows entries n) (sym (first text n has)) (first_found entries rows n r lookup text (found lookup text) row.1 finds refl refl (omega (arith, has.1)))

@@ -2,7 +2,7 @@
 use Rattle.std.proofs.Common.{◌≡◌, ◌≢◌, ℕ, zero, suc, ◌+◌, ◌<◌, ◌≤◌, Bool, true, false, cond, eqb, List, [], ◌∷◌, ◌++◌, take, drop, length, get_or, flat_map, Some, None, refl, sym, ap, ◌∙◌, append_assoc, arith, position, ◌-◌, ltb, inl, inr}
 use Rattle.std.proofs.lemmas.List.Quantifiers.{position-Some}
 use Rattle.std.specs.List.{position_or_len}
-use Rattle.std.proofs.lemmas.Bool.{cases_lt, lt-ltb, cond-true, eq-eqb}
+use Rattle.std.proofs.lemmas.Bool.{cases_Bool, cases_lt, lt-ltb, cond-true, eq-eqb}
 use Rattle.std.proofs.lemmas.Bool.Decides.{eqb_tells}
 use Rattle.std.proofs.lemmas.List.{take_rest}
 use Rattle.std.proofs.lemmas.List.Sums.{fails_before_first}
@@ -70,27 +70,18 @@ piece_other s b other = elim (eqb_tells b s) [
 abbrev HasFirst : List (List ℕ) → Type 0
 HasFirst parts = (part : List ℕ) × (more : List (List ℕ)) × (parts ≡ part ∷ more)
 
-first_by : (s b : ℕ) (text : List ℕ) (t : Bool) → eqb b s ≡ t → HasFirst (parts_at s text) → HasFirst (parts_at s (b ∷ text))
-first_by s b text true e h = ([], parts_at s text, rw e refl)
-first_by s b text false e h = (b ∷ h.0, h.1, rw (e, h.2) refl)
-
 -- there is a first part
 first_part : (s : ℕ) (text : List ℕ) → HasFirst (parts_at s text)
 first_part s [] = ([], [], refl)
-first_part s (b ∷ text) = first_by s b text (eqb b s) refl (first_part s text)
+first_part s (b ∷ text) = let h = first_part s text in elim (cases_Bool (eqb b s)) [ inl e ↦ ([], parts_at s text, rw e refl) | inr e ↦ (b ∷ h.0, h.1, rw (e, h.2) refl) ]
 
 onto_text : (b : ℕ) (parts : List (List ℕ)) (part : List ℕ) (more : List (List ℕ)) → parts ≡ part ∷ more → key_text (onto_first b parts) ≡ byte_text b ++ key_text parts
 onto_text b parts part more e =
     rw e (ap (λ l. l ++ flat_map ended_text more) (append_assoc (byte_text b) (flat_map byte_text part) (end_mark ∷ [])) ∙ append_assoc (byte_text b) (ended_text part) (flat_map ended_text more))
 
-abbrev SameText : ℕ → List ℕ → Type 0
-SameText s text = flat_map (piece_byte s) text ++ end_mark ∷ [] ≡ key_text (parts_at s text)
-
-by_byte : (s b : ℕ) (text : List ℕ) (t : Bool) → eqb b s ≡ t → HasFirst (parts_at s text) → SameText s text → SameText s (b ∷ text)
-by_byte s b text true e h same = rw e (ap (λ l. end_mark ∷ l) same)
-by_byte s b text false e h same =
-    rw e (append_assoc (byte_text b) (flat_map (piece_byte s) text) (end_mark ∷ []) ∙ ap (λ l. byte_text b ++ l) same ∙ sym (onto_text b (parts_at s text) h.0 h.1 h.2))
-
 pub pieces_key_text : (s : ℕ) (text : List ℕ) → flat_map (piece_byte s) text ++ end_mark ∷ [] ≡ key_text (parts_at s text)
 pieces_key_text s [] = refl
-pieces_key_text s (b ∷ text) = by_byte s b text (eqb b s) refl (first_part s text) (pieces_key_text s text)
+pieces_key_text s (b ∷ text) = let h = first_part s text in elim (cases_Bool (eqb b s)) [
+  | inl e ↦ rw e (ap (λ l. end_mark ∷ l) (pieces_key_text s text))
+  | inr e ↦ rw e (append_assoc (byte_text b) (flat_map (piece_byte s) text) (end_mark ∷ []) ∙ ap (λ l. byte_text b ++ l) (pieces_key_text s text) ∙ sym (onto_text b (parts_at s text) h.0 h.1 h.2))
+]

@@ -1,5 +1,5 @@
 -- A file's graph has its steps, and so its walks; and no step starts at a definition row.
-use Rattle.std.proofs.Common.{◌≡◌, ℕ, Bool, true, false, None, Some, List, refl, sym, ap, ◌∙◌, inl, inr}
+use Rattle.std.proofs.Common.{◌≡◌, ℕ, Bool, true, false, None, Some, List, sym, ap, ◌∙◌, arith, inl, inr}
 use Rattle.std.specs.Prelude.{◌||◌, codes}
 use Rattle.std.specs.Str.{bytes_eq}
 use Rattle.std.proofs.lemmas.Bool.{true≢false, cond-true}
@@ -27,18 +27,9 @@ graphs_walk_as_files file graph is =
 
 -- ---- definition rows
 
-not_both : (b : Bool) → b ≡ true → b ≡ false → ⊥
-not_both b t f = true≢false (sym t ∙ f)
-
 -- what is TRAN, ABBR, UNIT, TYPE or DICT is one of the groups that have no parent
 one_of_more : (proj tran abbr dict unit type file : Bool) → (tran || (abbr || (unit || (type || (dict || false))))) ≡ true → (proj || (tran || (abbr || (dict || (unit || (type || (file || false))))))) ≡ true
-one_of_more true t a d u y f e = refl
-one_of_more false true a d u y f e = refl
-one_of_more false false true d u y f e = refl
-one_of_more false false false true u y f e = refl
-one_of_more false false false false true y f e = refl
-one_of_more false false false false false true f e = refl
-one_of_more false false false false false false f e = absurd (true≢false (sym e))
+one_of_more p t a d u y f e = grind arith
 
 no_parent : (name : List ℕ) → is_definition name ≡ true → has_no_parent name ≡ true
 no_parent name d =
@@ -51,8 +42,8 @@ definition_orphan entries name parent d is = none-some parent (sym (cond-true (h
 
 no_step_from : (entries : Entries) (separators : Separators) (r s : DataRow) → is_definition r.group ≡ true → Step entries separators r s → ⊥
 no_step_from entries separators r s d (inl is) = definition_orphan entries r.group s.group d is.0
-no_step_from entries separators r s d (inr (inl link)) = not_both (is_definition r.group) d link.0
-no_step_from entries separators r s d (inr (inr row)) = not_both (is_definition r.group) d row.0
+no_step_from entries separators r s d (inr (inl link)) = true≢false (sym d ∙ link.0)
+no_step_from entries separators r s d (inr (inr row)) = true≢false (sym d ∙ row.0)
 
 pub definitions_have_no_step : DefinitionsHaveNoStep
 definitions_have_no_step file n m row at d step =

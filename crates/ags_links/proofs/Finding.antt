@@ -1,10 +1,10 @@
 -- The index, one more row at a time.
-use Rattle.std.proofs.Common.{◌≡◌, ℕ, ◌+◌, ◌<◌, ◌≤◌, Bool, true, false, cond, List, [], ◌∷◌, ◌++◌, length, take, get_or, map, refl, sym, ap, subst, ◌∙◌, arith, inl, inr, ◌⊎◌, Contains, append-nil, Result, Ok, Err, IfOk}
+use Rattle.std.proofs.Common.{◌≡◌, ℕ, ◌+◌, ◌<◌, ◌≤◌, Bool, true, false, cond, List, [], ◌∷◌, ◌++◌, length, take, get_or, map, sym, ap, subst, ◌∙◌, arith, inl, inr, ◌⊎◌, ◌↔◌, Contains, append-nil, Result, Ok, Err, IfOk}
 use Rattle.std.specs.Str.{bytes_eq}
 use Rattle.std.specs.List.Sorted.{IsStrictlyIncreasing}
 use Rattle.std.proofs.lemmas.Slice.Eq.{bytes_eq-Decides}
-use Rattle.std.proofs.lemmas.List.{take_more, length-take-le, length-map, map-append, take_all, get_or_default, get_or-take}
-use Rattle.std.proofs.lemmas.List.Elements.{Contains-push, Contains-push_cases, Contains-append_left}
+use Rattle.std.proofs.lemmas.List.{take_more, length-take-le, length-map, map_more, take_all, get_or_default, get_or-take}
+use Rattle.std.proofs.lemmas.List.Elements.{Contains-push, Contains-push_cases, Contains-append_cases, Contains-append_left}
 use Rattle.ags_links.specs.Lookups.{Lookup}
 use Rattle.ags_links.specs.declared.placed.PlacedRow.{PlacedRow}
 use Rattle.ags_rows.specs.Collecting.{At}
@@ -13,17 +13,13 @@ use Rattle.ags_links.specs.Families.{HasText, HasAmong}
 use Rattle.ags_links.specs.Lookups.{found, Finds, FindsAsked}
 use Rattle.ags_links.specs.Placing.{row_of}
 use Rattle.ags_links.proofs.Rising.{rising_nil, rising_push, earlier_is_below}
-use Rattle.ags_links.proofs.RowLemmas.{nothing_at, at_before, at_last, at_cases, one_at}
+use Rattle.ags_links.proofs.Members.{contains_if}
+use Rattle.ags_rows.proofs.Lemmas.{none_is}
+use Rattle.ags_links.proofs.RowLemmas.{at_before, at_last, at_cases, one_at}
 
 -- one row was added at a text
 abbrev pub IsAdded : Lookup → Lookup → List ℕ → ℕ → Type 0
 IsAdded old new text n = (q : List ℕ) → found new q ≡ found old q ++ cond (bytes_eq text q) (n ∷ []) []
-
-same_bytes : (text q : List ℕ) → bytes_eq text q ≡ true → text ≡ q
-same_bytes text q e = (bytes_eq-Decides text q).0 e
-
-eq_bytes : (text q : List ℕ) → text ≡ q → bytes_eq text q ≡ true
-eq_bytes text q e = (bytes_eq-Decides text q).1 e
 
 -- rows found at one text, with what was added
 abbrev FoundNext : (t : Bool) → List ℕ → List ℕ → ℕ → Type 0
@@ -33,19 +29,11 @@ rising_next : (t : Bool) (old new : List ℕ) (n : ℕ) → FoundNext t old new 
 rising_next true old new n e rises below = subst IsStrictlyIncreasing (sym e) (rising_push old n rises below)
 rising_next false old new n e rises below = subst IsStrictlyIncreasing (sym (e ∙ append-nil old)) rises
 
-contains_next : (t : Bool) (old new : List ℕ) (n m : ℕ) → FoundNext t old new n → Contains new m → Contains old m ⊎ ((t ≡ true) × (n ≡ m))
-contains_next true old new n m e h = elim (Contains-push_cases old n m (subst (λ l. Contains l m) e h)) [ inl was ↦ inl was | inr is ↦ inr (refl, is) ]
-contains_next false old new n m e h = inl (subst (λ l. Contains l m) (e ∙ append-nil old) h)
-
-contains_kept : (t : Bool) (old new : List ℕ) (n m : ℕ) → FoundNext t old new n → Contains old m → Contains new m
-contains_kept true old new n m e h = subst (λ l. Contains l m) (sym e) (Contains-append_left old (n ∷ []) m h)
-contains_kept false old new n m e h = subst (λ l. Contains l m) (sym (e ∙ append-nil old)) h
-
-contains_added : (t : Bool) (old new : List ℕ) (n : ℕ) → FoundNext t old new n → t ≡ true → Contains new n
-contains_added true old new n e is = subst (λ l. Contains l n) (sym e) (Contains-push old n)
-contains_added false old new n e is = absurd (no is) where
-  no : false ≡ true → ⊥
-  no h = cc
+contains_next : (t : Bool) (old new : List ℕ) (n m : ℕ) → FoundNext t old new n → Contains new m ↔ (Contains old m ⊎ ((t ≡ true) × (n ≡ m)))
+contains_next t old new n m e = (
+  λ h. elim (Contains-append_cases old (cond t (n ∷ []) []) m (subst (λ l. Contains l m) e h)) [ inl was ↦ inl was | inr is ↦ inr (contains_if t n m is) ],
+  λ h. subst (λ l. Contains l m) (sym e) (elim h [ inl was ↦ Contains-append_left old (cond t (n ∷ []) []) m was | inr is ↦ rw (is.0, ← is.1) (Contains-push old n) ]),
+)
 
 -- the new row is above those before, and has this text alone
 pub finds_more : (old new : Lookup) (Had Has : ℕ → List ℕ → Type 0) (n : ℕ) (text : List ℕ) → Finds old Had → IsAdded old new text n
@@ -54,21 +42,13 @@ pub finds_more : (old new : Lookup) (Had Has : ℕ → List ℕ → Type 0) (n :
 finds_more old new Had Has n text so_far added below kept here cases = record {
   rising = λ q. rising_next (bytes_eq text q) (found old q) (found new q) n (added q) (so_far.rising q) (λ m h. below m q ((so_far.exact q m).0 h));
   exact = λ q m. (
-    λ h. elim (contains_next (bytes_eq text q) (found old q) (found new q) n m (added q) h) [
+    λ h. elim ((contains_next (bytes_eq text q) (found old q) (found new q) n m (added q)).0 h) [
       | inl was ↦ kept m q ((so_far.exact q m).0 was)
-      | inr is ↦ subst (λ (k : ℕ). Has k q) is.1 (subst (Has n) (same_bytes text q is.0) here)
+      | inr is ↦ subst (λ (k : ℕ). Has k q) is.1 (subst (Has n) ((bytes_eq-Decides text q).0 is.0) here)
     ],
-    λ h. elim (cases m q h) [
-      | inl was ↦ contains_kept (bytes_eq text q) (found old q) (found new q) n m (added q) ((so_far.exact q m).1 was)
-      | inr is ↦ subst (Contains (found new q)) is.0 (contains_added (bytes_eq text q) (found old q) (found new q) n (added q) (eq_bytes text q is.1))
-    ],
+    λ h. (contains_next (bytes_eq text q) (found old q) (found new q) n m (added q)).1
+        (elim (cases m q h) [ inl was ↦ inl ((so_far.exact q m).1 was) | inr is ↦ inr ((bytes_eq-Decides text q).1 is.1, is.0) ]),
   );
-}
-
-pub finds_same : (lookup : Lookup) (Had Has : ℕ → List ℕ → Type 0) → Finds lookup Had → ((m : ℕ) (q : List ℕ) → Had m q → Has m q) → ((m : ℕ) (q : List ℕ) → Has m q → Had m q) → Finds lookup Has
-finds_same lookup Had Has so_far to from = record {
-  rising = so_far.rising;
-  exact = λ q m. (λ h. to m q ((so_far.exact q m).0 h), λ h. (so_far.exact q m).1 (from m q h));
 }
 
 -- what is found at each text is found at those that are asked for
@@ -89,66 +69,59 @@ asked_same lookup WasAsked IsAsked Had Has so_far asks to from = record {
 pub finds_none : (lookup : Lookup) (Has : ℕ → List ℕ → Type 0) → ((q : List ℕ) → found lookup q ≡ []) → ((m : ℕ) (q : List ℕ) → Has m q → ⊥) → Finds lookup Has
 finds_none lookup Has empty none = record {
   rising = λ q. subst IsStrictlyIncreasing (sym (empty q)) rising_nil;
-  exact = λ q m. (λ h. absurd (nothing m (subst (λ l. Contains l m) (empty q) h)), λ h. absurd (none m q h));
-} where
-  nothing : (m : ℕ) → Contains {X = ℕ} [] m → ⊥
-  nothing m h = omega (arith, h.1)
-
--- two look-ups that find the same rows at each text
-pub finds_alike : (old new : Lookup) (Has : ℕ → List ℕ → Type 0) → ((q : List ℕ) → found new q ≡ found old q) → Finds old Has → Finds new Has
-finds_alike old new Has same so_far = record {
-  rising = λ q. subst IsStrictlyIncreasing (sym (same q)) (so_far.rising q);
-  exact = λ q m. (λ h. (so_far.exact q m).0 (subst (λ l. Contains l m) (same q) h), λ h. subst (λ l. Contains l m) (sym (same q)) ((so_far.exact q m).1 h));
+  exact = λ q m. (λ h. absurd (none_is m (subst (λ l. Contains l m) (empty q) h)), λ h. absurd (none m q h));
 }
 
+-- two look-ups that find the same rows at each text
 pub finds_ok : {E : Type 0} (r : Result Lookup E) (old : Lookup) (Has : ℕ → List ℕ → Type 0) → IfOk r (λ l. (q : List ℕ) → found l q ≡ found old q) → Finds old Has → IfOk r (λ l. Finds l Has)
-finds_ok (Ok l) old Has same so_far = finds_alike old l Has same so_far
+finds_ok (Ok l) old Has same so_far = record {
+  rising = λ q. subst IsStrictlyIncreasing (sym (same q)) (so_far.rising q);
+  exact = λ q m. subst (λ ns. Contains ns m ↔ Has m q) (sym (same q)) (so_far.exact q m);
+}
 finds_ok (Err e) old Has same so_far = same
 
 -- ---- rows of a file, from the first on
 
-pub rows_next : (rows : List PlacedRow) (i : ℕ) (d : PlacedRow) → i < length rows → map row_of (take (i + 1) rows) ≡ map row_of (take i rows) ++ row_of (get_or rows i d) ∷ []
-rows_next rows i d lt = ap (map row_of) (take_more rows i d lt) ∙ map-append row_of (take i rows) (get_or rows i d ∷ [])
+rows_next : (rows : List PlacedRow) (i : ℕ) (x : PlacedRow) → i < length rows → x ≡ get_or rows i x → map row_of (take (i + 1) rows) ≡ map row_of (take i rows) ++ row_of x ∷ []
+rows_next rows i x lt is = map_more row_of rows i x lt ∙ ap (λ y. map row_of (take i rows) ++ row_of y ∷ []) (sym is)
 
 rows_length : (rows : List PlacedRow) (i : ℕ) → i < length rows → length (map row_of (take i rows)) ≡ i
 rows_length rows i lt = length-map (take i rows) row_of ∙ length-take-le i rows (omega arith)
 
 pub finds_begin : (lookup : Lookup) (Has : DataRow → List ℕ → Type 0) → ((q : List ℕ) → found lookup q ≡ []) → Finds lookup (HasText [] Has)
-finds_begin lookup Has empty = finds_none lookup (HasText [] Has) empty (λ m q h. nothing_at m h.0 h.1)
-
-finds_last : (old new : Lookup) (Has : DataRow → List ℕ → Type 0) (rows : List DataRow) (x : DataRow) (n : ℕ) (text : List ℕ) → length rows ≡ n → Finds old (HasText rows Has) → IsAdded old new text n
-    → Has x text → ((q : List ℕ) → Has x q → text ≡ q) → Finds new (HasText (rows ++ x ∷ []) Has)
-finds_last old new Has rows x n text len so_far added here only = finds_more old new (HasText rows Has) (HasText (rows ++ x ∷ []) Has) n text so_far added
-    (λ m q h. omega (arith, h.1.0, len))
-    (λ m q h. (h.0, at_before rows x m h.0 h.1, h.2))
-    (x, subst (λ (k : ℕ). At (rows ++ x ∷ []) k x) len (at_last rows x), here)
-    (λ m q h. elim (at_cases rows x m h.0 h.1) [
-      | inl was ↦ inl (h.0, was, h.2)
-      | inr is ↦ inr (sym (is.0 ∙ len), only q (subst (λ r. Has r q) (sym is.1) h.2))
-    ])
-
-finds_past : (old : Lookup) (Has : DataRow → List ℕ → Type 0) (rows : List DataRow) (x : DataRow) → Finds old (HasText rows Has) → ((q : List ℕ) → Has x q → ⊥) → Finds old (HasText (rows ++ x ∷ []) Has)
-finds_past old Has rows x so_far none = finds_same old (HasText rows Has) (HasText (rows ++ x ∷ []) Has) so_far
-    (λ m q h. (h.0, at_before rows x m h.0 h.1, h.2))
-    (λ m q h. elim (at_cases rows x m h.0 h.1) [
-      | inl was ↦ (h.0, was, h.2)
-      | inr is ↦ absurd (none q (subst (λ r. Has r q) (sym is.1) h.2))
-    ])
+finds_begin lookup Has empty = finds_none lookup (HasText [] Has) empty (λ m q h. omega (arith, h.1.0))
 
 -- the next row is added at its text
 pub finds_row : (old new : Lookup) (Has : DataRow → List ℕ → Type 0) (rows : List PlacedRow) (i : ℕ) (x : PlacedRow) (text : List ℕ) → i < length rows → x ≡ get_or rows i x
     → Finds old (HasText (map row_of (take i rows)) Has) → IsAdded old new text i → Has (row_of x) text → ((q : List ℕ) → Has (row_of x) q → text ≡ q)
     → Finds new (HasText (map row_of (take (i + 1) rows)) Has)
 finds_row old new Has rows i x text lt is so_far added here only =
-    let next = rows_next rows i x lt ∙ ap (λ y. map row_of (take i rows) ++ row_of y ∷ []) (sym is) in
-    subst (λ rs. Finds new (HasText rs Has)) (sym next) (finds_last old new Has (map row_of (take i rows)) (row_of x) i text (rows_length rows i lt) so_far added here only)
+    let before = map row_of (take i rows) in
+    let len = rows_length rows i lt in
+    subst (λ rs. Finds new (HasText rs Has)) (sym (rows_next rows i x lt is)) (finds_more old new (HasText before Has) (HasText (before ++ row_of x ∷ []) Has) i text so_far added
+    (λ m q h. omega (arith, h.1.0, len))
+    (λ m q h. (h.0, at_before before (row_of x) m h.0 h.1, h.2))
+    (row_of x, subst (λ (k : ℕ). At (before ++ row_of x ∷ []) k (row_of x)) len (at_last before (row_of x)), here)
+    (λ m q h. elim (at_cases before (row_of x) m h.0 h.1) [
+      | inl was ↦ inl (h.0, was, h.2)
+      | inr is ↦ inr (sym (is.0 ∙ len), only q (subst (λ r. Has r q) (sym is.1) h.2))
+    ]))
 
 -- the next row has no text
 pub finds_over : (old : Lookup) (Has : DataRow → List ℕ → Type 0) (rows : List PlacedRow) (i : ℕ) (x : PlacedRow) → i < length rows → x ≡ get_or rows i x
     → Finds old (HasText (map row_of (take i rows)) Has) → ((q : List ℕ) → Has (row_of x) q → ⊥) → Finds old (HasText (map row_of (take (i + 1) rows)) Has)
 finds_over old Has rows i x lt is so_far none =
-    let next = rows_next rows i x lt ∙ ap (λ y. map row_of (take i rows) ++ row_of y ∷ []) (sym is) in
-    subst (λ rs. Finds old (HasText rs Has)) (sym next) (finds_past old Has (map row_of (take i rows)) (row_of x) so_far none)
+    let before = map row_of (take i rows) in
+    subst (λ rs. Finds old (HasText rs Has)) (sym (rows_next rows i x lt is)) (record {
+      rising = so_far.rising;
+      exact = λ q m. (
+        λ h. let was = (so_far.exact q m).0 h in (was.0, at_before before (row_of x) m was.0 was.1, was.2),
+        λ h. elim (at_cases before (row_of x) m h.0 h.1) [
+          | inl was ↦ (so_far.exact q m).1 (h.0, was, h.2)
+          | inr is ↦ absurd (none q (subst (λ r. Has r q) (sym is.1) h.2))
+        ],
+      );
+    })
 
 -- all rows
 pub finds_rows : (lookup : Lookup) (Has : DataRow → List ℕ → Type 0) (rows : List PlacedRow) (i : ℕ) → length rows ≤ i → Finds lookup (HasText (map row_of (take i rows)) Has) → Finds lookup (HasText (map row_of rows) Has)

@@ -1,18 +1,17 @@
 -- The first row of each text, read off pairs in the order of their texts.
-use Rattle.std.proofs.Common.{◌≡◌, ◌≢◌, ℕ, suc, ◌+◌, ◌-◌, ◌<◌, ◌≤◌, Bool, true, false, not, ◌&&◌, cond, List, [], ◌∷◌, ◌++◌, length, map, take, drop, get_or, set, refl, sym, ap, subst, ◌∙◌, arith, Contains, inl, inr, ◌⊎◌}
+use Rattle.std.proofs.Common.{◌≡◌, ◌≢◌, ℕ, suc, ◌+◌, ◌-◌, ◌<◌, ◌≤◌, true, false, not, cond, List, [], ◌∷◌, ◌++◌, length, take, drop, get_or, set, refl, sym, ap, subst, ◌∙◌, arith, Contains, inl, inr, ◌⊎◌}
 use Rattle.std.specs.Ordering.{is_lt}
-use Rattle.std.specs.List.{filter}
 use Rattle.std.specs.Str.{bytes_eq}
-use Rattle.std.proofs.lemmas.Bool.{true≢false, cases_Bool, cases_lt}
+use Rattle.std.proofs.lemmas.Bool.{true≢false, cases_Bool, cases_lt, and_from, not_from_false}
 use Rattle.std.proofs.lemmas.Cmp.{nat_list_cmp_total}
-use Rattle.std.proofs.lemmas.List.{map-append, take-append-drop, get_or-set_same, get_or-set_other, length-set, get_or-take, get_or_default, length-take-le}
-use Rattle.std.proofs.lemmas.List.Elements.{filter-append, Contains-append_left, Contains-append_right, Contains-append_cases}
+use Rattle.std.proofs.lemmas.List.{take-append-drop, get_or-set_same, get_or-set_other, length-set, get_or-take, get_or_default, length-take-le}
+use Rattle.std.proofs.lemmas.List.Elements.{Contains-append_left, Contains-append_right, Contains-append_cases}
 use Rattle.std.proofs.lemmas.List.Sorted.{sorted_far, ranks_by}
 use Rattle.std.proofs.lemmas.Slice.Eq.{bytes_eq-Decides}
 use Rattle.std.proofs.Math.Seq.{take-suc, drop-cons}
 use Rattle.ags_links.specs.Lookups.{Lookup, found, pairs_of, AreInOrder, HasOneText}
-use Rattle.ags_links.proofs.ByText.{Pair, key, order, below, tied, pushed}
-use Rattle.ags_links.proofs.Members.{contains_head, contains_cons}
+use Rattle.ags_links.proofs.ByText.{Pair, key, order, below, tied, found_append, pushed}
+use Rattle.ags_links.proofs.Members.{contains_head, contains_if, contains_tail}
 
 -- up to pair k each row has its first row; the pair at `first` is the first of the text of the pair before k
 pub record Led (lookup : Lookup) (pairs : List Pair) (count k first : ℕ) (firsts : List ℕ) : Type 0 where
@@ -21,30 +20,17 @@ pub record Led (lookup : Lookup) (pairs : List Pair) (count k first : ℕ) (firs
   pub lead : (d : Pair) → 0 < k → (key (get_or pairs first d) ≡ key (get_or pairs (k - 1) d)) × ((get_or pairs first d).1 ≡ get_or (found lookup (key (get_or pairs (k - 1) d))) 0 0)
   pub done : (text : List ℕ) (n : ℕ) → Contains (found (pairs_of (take k pairs)) text) n → get_or firsts n 0 ≡ get_or (found lookup text) 0 0
 
-found_append : (xs ys : List Pair) (text : List ℕ) → found (pairs_of (xs ++ ys)) text ≡ found (pairs_of xs) text ++ found (pairs_of ys) text
-found_append xs ys text =
-    ap (λ ps. found ps text) (map-append (λ (p : Pair). (key p, p.1)) xs ys)
-    ∙ ap (map (λ (p : List ℕ × ℕ). p.1)) (filter-append (λ (p : List ℕ × ℕ). bytes_eq p.0 text) (pairs_of xs) (pairs_of ys))
-    ∙ map-append (λ (p : List ℕ × ℕ). p.1) (filter (λ (p : List ℕ × ℕ). bytes_eq p.0 text) (pairs_of xs)) (filter (λ (p : List ℕ × ℕ). bytes_eq p.0 text) (pairs_of ys))
-
--- a pair has its text
-own_text : (p : Pair) → bytes_eq (key p) (key p) ≡ true
-own_text p = (bytes_eq-Decides (key p) (key p)).1 refl
-
+-- the first of the pairs is found by its text
 found_head : (p : Pair) (ps : List Pair) → found (pairs_of (p ∷ ps)) (key p) ≡ p.1 ∷ found (pairs_of ps) (key p)
-found_head p ps = ap (λ b. map (λ (x : List ℕ × ℕ). x.1) (cond b ((key p, p.1) ∷ rest) rest)) (own_text p) where
-  rest : Lookup
-  rest = filter (λ (x : List ℕ × ℕ). bytes_eq x.0 (key p)) (pairs_of ps)
+found_head p ps = rw ((bytes_eq-Decides (key p) (key p)).1 refl)
 
 -- none of the pairs has the text
 none_found : (ps : List Pair) (text : List ℕ) → ((p : Pair) → Contains ps p → key p ≢ text) → found (pairs_of ps) text ≡ []
 none_found [] text others = refl
 none_found (p ∷ ps) text others = elim (cases_Bool (bytes_eq (key p) text)) [
   | inl is ↦ absurd (others p (contains_head p ps) ((bytes_eq-Decides (key p) text).0 is))
-  | inr is ↦ ap (λ b. map (λ (x : List ℕ × ℕ). x.1) (cond b ((key p, p.1) ∷ rest) rest)) is ∙ none_found ps text (λ q h. others q (Contains-append_right (p ∷ []) ps q h))
-] where
-  rest : Lookup
-  rest = filter (λ (x : List ℕ × ℕ). bytes_eq x.0 text) (pairs_of ps)
+  | inr is ↦ rw is (none_found ps text (λ q h. others q (contains_tail p ps q h)))
+]
 
 -- the first pair of a text is first among those found
 first_is_found : (pairs : List Pair) (k : ℕ) (d : Pair) → k < length pairs → ((p : Pair) → Contains (take k pairs) p → key p ≢ key (get_or pairs k d)) → get_or (found (pairs_of pairs) (key (get_or pairs k d))) 0 0 ≡ (get_or pairs k d).1
@@ -71,17 +57,6 @@ early_found pairs k text n h =
     subst (λ ps. Contains (found (pairs_of ps) text) n) (take-append-drop k pairs)
     (subst (λ l. Contains l n) (sym (found_append (take k pairs) (drop k pairs) text)) (Contains-append_left (found (pairs_of (take k pairs)) text) (found (pairs_of (drop k pairs)) text) n h))
 
-pub tells_not : (b : Bool) → not b ≡ true → b ≡ false
-tells_not true h = sym h
-tells_not false h = refl
-
-pub tells : (b : Bool) → not b ≡ false → b ≡ true
-tells true h = refl
-tells false h = sym h
-
-no_lt : (b c : Bool) → b ≡ false → c ≡ false → not b && not c ≡ true
-no_lt b c e f = ap (λ x. not x && not c) e ∙ ap not f
-
 module _ (pairs : List Pair) (sorted : AreInOrder pairs) where
   -- where the pair before k has another text, all before it have others
   no_earlier : (k : ℕ) (d : Pair) → 0 < k → k < length pairs → key (get_or pairs (k - 1) d) ≢ key (get_or pairs k d) → (p : Pair) → Contains (take k pairs) p → key p ≢ key (get_or pairs k d)
@@ -94,7 +69,8 @@ module _ (pairs : List Pair) (sorted : AreInOrder pairs) where
       let low : below last (get_or pairs h.0 p) ≡ false = ap (λ q. below q (get_or pairs h.0 p)) (get_or_default pairs (k - 1) d p (omega (arith, some, lt))) ∙ up h.0 (k - 1) p (omega (arith, few)) (omega (arith, some, lt)) in
       let not_above : below last here ≡ false = ap (λ t. is_lt (order (key last) t)) (sym (ap key is ∙ same)) ∙ low in
       let not_below : below here last ≡ false = up (k - 1) k d (omega arith) lt in
-      other (sym ((bytes_eq-Decides (key here) (key last)).0 (sym (tied last here) ∙ no_lt (below last here) (below here last) not_above not_below)))
+      let tie = and_from (not (below last here)) (not (below here last)) (not_from_false (below last here) not_above) (not_from_false (below here last) not_below) in
+      other (sym ((bytes_eq-Decides (key here) (key last)).0 (sym (tied last here) ∙ tie)))
 
   module _ (lookup : Lookup) (is : pairs_of pairs ≡ lookup) (once : HasOneText lookup) (count k first : ℕ) (firsts : List ℕ) (d : Pair) (lt : k < length pairs) (led : Led lookup pairs count k first firsts) where
     abbrev here : Pair
@@ -164,13 +140,9 @@ module _ (pairs : List Pair) (sorted : AreInOrder pairs) where
           ap (λ i. get_or (set firsts here.1 (get_or pairs next d).1) i 0) e ∙ get_or-set_same firsts here.1 (get_or pairs next d).1 0 (omega (arith, few, led.size)) ∙ row ∙ ap (λ t. get_or (found lookup t) 0 0) texts
 
       added : (text : List ℕ) (n : ℕ) → Contains (cond (bytes_eq (key here) text) (here.1 ∷ []) []) n → get_or (set firsts here.1 (get_or pairs next d).1) n 0 ≡ get_or (found lookup text) 0 0
-      added text n h = elim (cases_Bool (bytes_eq (key here) text)) [
-        | inl alike ↦ elim (contains_cons here.1 [] n (subst (λ b. Contains (cond b (here.1 ∷ []) []) n) alike h)) [
-          | inl e ↦ mine text n (sym e) (subst (λ t. Contains (found lookup t) n) ((bytes_eq-Decides (key here) text).0 alike) (subst (Contains (found lookup (key here))) e here_found))
-          | inr none ↦ absurd (omega (arith, none.1))
-        ]
-        | inr none ↦ absurd (omega (arith, (subst (λ b. Contains (cond b (here.1 ∷ []) []) n) none h).1))
-      ]
+      added text n h =
+          let is = contains_if (bytes_eq (key here) text) here.1 n h in
+          mine text n (sym is.1) (subst (λ t. Contains (found lookup t) n) ((bytes_eq-Decides (key here) text).0 is.0) (subst (Contains (found lookup (key here))) is.1 here_found))
 
     -- the same, as the loop has it
     pub led_step : (x y : Pair) (next : ℕ) → get_or pairs k d ≡ x → get_or pairs next d ≡ y → x.1 < count → ((next ≡ k) × (bytes_eq (key (get_or pairs first d)) (key x) ≡ false)) ⊎ ((next ≡ first) × (bytes_eq (key (get_or pairs first d)) (key x) ≡ true))

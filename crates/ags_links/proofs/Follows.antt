@@ -1,5 +1,5 @@
 -- The work list, from turn to turn.
-use Rattle.std.proofs.Common.{◌≡◌, ℕ, suc, ◌+◌, ◌<◌, ◌≤◌, Bool, true, false, not, cond, List, [], ◌∷◌, ◌++◌, length, get_or, refl, sym, subst, arith, inl, inr, ◌⊎◌, ◌↔◌, Contains, sum_by, count_by}
+use Rattle.std.proofs.Common.{◌≡◌, ℕ, ◌+◌, ◌<◌, ◌≤◌, Bool, false, not, cond, List, [], ◌∷◌, ◌++◌, length, get_or, refl, sym, subst, arith, inl, inr, ◌⊎◌, ◌↔◌, Contains, sum_by, count_by}
 use Rattle.std.proofs.lemmas.List.{length_push}
 use Rattle.std.proofs.lemmas.List.Elements.{All-contains, Contains-push_cases, Contains-append_left, Contains-push}
 use Rattle.std.proofs.lemmas.List.Sums.{sum_by_push, sum_by-cons, count_by-le-length}
@@ -59,24 +59,18 @@ follow_more steps from marks work turns row more next so_far looked =
     }
 
 -- what the start has, each step keeps and nothing else has is what is reached
-marks_are_reached : (steps : List (ℕ × ℕ)) (from marks : List Bool) → ((r : ℕ) → IsMarked from r → IsMarked marks r) → ((s : ℕ) → IsMarked marks s → IsReached (HasStep steps) (IsMarked from) s) → ((r s : ℕ) → HasStep steps r s → IsMarked marks r → IsMarked marks s) → (s : ℕ) → IsMarked marks s ↔ IsReached (HasStep steps) (IsMarked from) s
-marks_are_reached steps from marks grows sound closed s =
-    (sound s, λ h. reach_keeps (HasStep steps) (IsMarked marks) closed h.0 s h.2 (grows h.0 h.1))
-
 pub follow_ends : (steps : List (ℕ × ℕ)) (from marks : List Bool) (turns : ℕ) → Following steps from marks [] turns → (s : ℕ) → IsMarked marks s ↔ IsReached (HasStep steps) (IsMarked from) s
-follow_ends steps from marks turns so_far =
-    marks_are_reached steps from marks so_far.grows so_far.sound (λ r s step h. elim (so_far.open' r s step h) [ inl waiting ↦ absurd (omega (arith, waiting.1)) | inr closed ↦ closed ])
+follow_ends steps from marks turns so_far s =
+    let closed : (r t : ℕ) → HasStep steps r t → IsMarked marks r → IsMarked marks t =
+    λ r t step h. elim (so_far.open' r t step h) [ inl waiting ↦ absurd (omega (arith, waiting.1)) | inr here ↦ here ] in
+    (so_far.sound s, λ h. reach_keeps (HasStep steps) (IsMarked marks) closed h.0 s h.2 (so_far.grows h.0 h.1))
 
 pub follow_turns : (steps : List (ℕ × ℕ)) (from marks : List Bool) (turns : ℕ) → Following steps from marks [] turns → turns ≡ turns_of marks steps
 follow_turns steps from marks turns so_far = omega (arith, so_far.balance, weigh_turns steps marks)
 
-one_or_not : (m : Bool) → cond m 1 0 + cond (not m) 1 0 ≡ suc 0
-one_or_not true = refl
-one_or_not false = refl
-
 count_and_not : (marks : List Bool) → count_by (λ m. m) marks + count_by not marks ≡ length marks
 count_and_not [] = omega arith
-count_and_not (m ∷ marks) = omega (arith, count_and_not marks, sum_by-cons (λ (x : Bool). cond x 1 0) m marks, sum_by-cons (λ (x : Bool). cond (not x) 1 0) m marks, one_or_not m)
+count_and_not (m ∷ marks) = grind (arith, count_and_not marks, sum_by-cons (λ (x : Bool). cond x 1 0) m marks, sum_by-cons (λ (x : Bool). cond (not x) 1 0) m marks)
 
 ones : (rows : List ℕ) → sum_by (λ _. 1) rows ≡ length rows
 ones [] = refl
@@ -85,7 +79,7 @@ ones (r ∷ rows) = omega (arith, ones rows, sum_by-cons (λ (_ : ℕ). 1) r row
 -- fewer rows are unmarked or wait
 pub follow_falls : (beside : List ℕ) (marks more : List Bool) (work next : List ℕ) (row : ℕ) → length more ≡ length marks → Looked beside marks more work next → count_by not more + length next < count_by not marks + length (work ++ row ∷ [])
 follow_falls beside marks more work next row len looked =
-    omega (arith, looked.balance (λ _. 1), weigh_one marks, weigh_one more, count_and_not marks, count_and_not more, ones next, ones work, length_push work row)
+    omega (arith, looked.balance (λ _. 1), weigh_one 0 marks, weigh_one 0 more, count_and_not marks, count_and_not more, ones next, ones work, length_push work row)
 
 -- the turns fit
 pub follow_fits : (steps : List (ℕ × ℕ)) (from marks : List Bool) (work : List ℕ) (turns row : ℕ) → Following steps from marks (work ++ row ∷ []) turns → turns + 1 + length (targets steps row) ≤ length marks + length steps

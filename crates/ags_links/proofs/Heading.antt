@@ -10,13 +10,14 @@ use Rattle.std.specs.List.Sorted.{IsPermutation}
 use Rattle.std.proofs.lemmas.List.Sorted.{Contains-permutation}
 use Rattle.std.proofs.lemmas.List.Quantifiers.{position-Some}
 use Rattle.std.proofs.lemmas.Option.{none-some}
+use Rattle.std.proofs.lemmas.Simd.{map-map}
 use Rattle.std.proofs.lemmas.Slice.Eq.{bytes_eq-Decides}
 use Rattle.ags_rows.specs.Contents.{place_in, field_at}
 use Rattle.ags_dict.specs.Entries.{Entries, keys_of}
 use Rattle.ags_links.specs.DataRows.{DataRow, entry_of}
 use Rattle.ags_links.specs.Families.{is_one_of}
 use Rattle.ags_links.specs.ParentRows.{AreLinkHeadings}
-use Rattle.ags_links.proofs.Kept.{texts, texts_next, filter_push}
+use Rattle.ags_links.proofs.Kept.{texts, passing_next}
 use Rattle.ags_links.proofs.Members.{contains_filter, filter_contains, contains_map, map_contains}
 
 -- ---- whether a name has a place
@@ -82,12 +83,10 @@ texts_permuted names moved name same h =
 
 -- what is at the places of headings is what is under the headings
 pub entries_at : (row : DataRow) (headings : List (List ℕ)) → map (field_at row.fields) (map (place_in row.headings) headings) ≡ map (entry_of row) headings
-entries_at row [] = refl
-entries_at row (h ∷ headings) = ap (λ es. entry_of row h ∷ es) (entries_at row headings)
+entries_at row headings = map-map (field_at row.fields) (place_in row.headings) headings
 
 pub places_named : (headings : List (List ℕ)) (names : List (Bor (List ℕ))) → map (λ n. place_in headings n.now) names ≡ map (place_in headings) (texts names)
-places_named headings [] = refl
-places_named headings (n ∷ names) = ap (λ ps. place_in headings n.now ∷ ps) (places_named headings names)
+places_named headings names = sym (map-map (place_in headings) (λ (n : Bor (List ℕ)). n.now) names)
 
 -- ---- the places of the headings that pass a test
 
@@ -101,9 +100,7 @@ push_cases place false xs x = ap (map place) (append-nil xs) ∙ sym (append-nil
 at_each_next : (place : List ℕ → Option ℕ) (p : List ℕ → Bool) (headings : List (Bor (List ℕ))) (i : ℕ) (d : Bor (List ℕ)) (t : Bool) → i < length headings → p (get_or headings i d).now ≡ t
     → at_each place p (texts (take (i + 1) headings)) ≡ at_each place p (texts (take i headings)) ++ cond t (place (get_or headings i d).now ∷ []) []
 at_each_next place p headings i d t lt tested =
-    let x = (get_or headings i d).now in
-    ap (at_each place p) (texts_next headings i d lt) ∙ ap (map place) (filter_push p (texts (take i headings)) x)
-    ∙ ap (λ b. map place (filter p (texts (take i headings)) ++ cond b (x ∷ []) [])) tested ∙ push_cases place t (filter p (texts (take i headings))) x
+    ap (map place) (passing_next p headings i d t lt tested) ∙ push_cases place t (filter p (texts (take i headings))) (get_or headings i d).now
 
 pub place_taken : (place : List ℕ → Option ℕ) (p : List ℕ → Bool) (old new : List (Option ℕ)) (headings : List (Bor (List ℕ))) (i : ℕ) (d : Bor (List ℕ)) (at : Option ℕ) → i < length headings
     → old ≡ map place (filter p (texts (take i headings))) → p (get_or headings i d).now ≡ true → at ≡ place (get_or headings i d).now → new ≡ old ++ at ∷ [] → new ≡ map place (filter p (texts (take (i + 1) headings)))

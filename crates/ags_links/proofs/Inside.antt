@@ -22,36 +22,28 @@ use Rattle.ags_links.specs.Placing.{IsPlaced, row_of}
 use Rattle.ags_links.specs.RecordLinks.{separators_of}
 use Rattle.ags_links.proofs.Kept.{placed_at}
 
-abbrev file_of : List Group → Entries → DataFile
-file_of groups entries = record { contents = contents_of groups; entries = entries }
+module _ (groups : List Group) (entries : Entries) (rows : List PlacedRow) (kept : List Family) (parents : ParentLists) (spans : List Span) (firsts : List ℕ) (by_key by_file_set : Lookup) (separators : Separators) (f : DataFile)
+    (index : Indexes groups entries rows kept parents spans firsts by_key by_file_set separators) (e : record { contents = contents_of groups; entries = entries } ≡ f) where
+  pub inside_keyed : Finds by_key (HasText (rows_in f) (HasKeyText f.entries))
+  inside_keyed = subst (λ (g : DataFile). Finds by_key (HasText (rows_in g) (HasKeyText g.entries))) e (subst (λ rs. Finds by_key (HasText rs (HasKeyText entries))) index.numbered index.keyed)
 
-pub inside_keyed : (groups : List Group) (entries : Entries) (rows : List PlacedRow) (kept : List Family) (parents : ParentLists) (spans : List Span) (firsts : List ℕ) (by_key by_file_set : Lookup) (separators : Separators) (f : DataFile) → Indexes groups entries rows kept parents spans firsts by_key by_file_set separators
-    → record { contents = contents_of groups; entries = entries } ≡ f → Finds by_key (HasText (rows_in f) (HasKeyText f.entries))
-inside_keyed groups entries rows kept parents spans firsts by_key by_file_set separators f index e =
-    subst (λ (g : DataFile). Finds by_key (HasText (rows_in g) (HasKeyText g.entries))) e (subst (λ rs. Finds by_key (HasText rs (HasKeyText entries))) index.numbered index.keyed)
+  pub inside_filed : Finds by_file_set (HasText (rows_in f) HasFileSet)
+  inside_filed = subst (λ (g : DataFile). Finds by_file_set (HasText (rows_in g) HasFileSet)) e (subst (λ rs. Finds by_file_set (HasText rs HasFileSet)) index.numbered index.filed)
 
-pub inside_filed : (groups : List Group) (entries : Entries) (rows : List PlacedRow) (kept : List Family) (parents : ParentLists) (spans : List Span) (firsts : List ℕ) (by_key by_file_set : Lookup) (separators : Separators) (f : DataFile) → Indexes groups entries rows kept parents spans firsts by_key by_file_set separators
-    → record { contents = contents_of groups; entries = entries } ≡ f → Finds by_file_set (HasText (rows_in f) HasFileSet)
-inside_filed groups entries rows kept parents spans firsts by_key by_file_set separators f index e =
-    subst (λ (g : DataFile). Finds by_file_set (HasText (rows_in g) HasFileSet)) e (subst (λ rs. Finds by_file_set (HasText rs HasFileSet)) index.numbered index.filed)
+  pub inside_families : AreFamilies f.entries groups kept
+  inside_families = subst (λ (g : DataFile). AreFamilies g.entries groups kept) e index.families
 
-pub inside_families : (groups : List Group) (entries : Entries) (rows : List PlacedRow) (kept : List Family) (parents : ParentLists) (spans : List Span) (firsts : List ℕ) (by_key by_file_set : Lookup) (separators : Separators) (f : DataFile) → Indexes groups entries rows kept parents spans firsts by_key by_file_set separators
-    → record { contents = contents_of groups; entries = entries } ≡ f → AreFamilies f.entries groups kept
-inside_families groups entries rows kept parents spans firsts by_key by_file_set separators f index e =
-    subst (λ (g : DataFile). AreFamilies g.entries groups kept) e index.families
+  pub inside_parents : AreKept rows spans (IsParentList f.entries (rows_in f) parents)
+  inside_parents = subst (λ (g : DataFile). AreKept rows spans (IsParentList g.entries (rows_in g) parents)) e (subst (λ rs. AreKept rows spans (IsParentList entries rs parents)) index.numbered index.parented)
 
-pub inside_parents : (groups : List Group) (entries : Entries) (rows : List PlacedRow) (kept : List Family) (parents : ParentLists) (spans : List Span) (firsts : List ℕ) (by_key by_file_set : Lookup) (separators : Separators) (f : DataFile) → Indexes groups entries rows kept parents spans firsts by_key by_file_set separators
-    → record { contents = contents_of groups; entries = entries } ≡ f → AreKept rows spans (IsParentList f.entries (rows_in f) parents)
-inside_parents groups entries rows kept parents spans firsts by_key by_file_set separators f index e =
-    subst (λ (g : DataFile). AreKept rows spans (IsParentList g.entries (rows_in g) parents)) e (subst (λ rs. AreKept rows spans (IsParentList entries rs parents)) index.numbered index.parented)
+  pub inside_separators : separators ≡ separators_of f.contents
+  inside_separators = subst (λ (g : DataFile). separators ≡ separators_of g.contents) e index.separated
 
-pub inside_separators : (groups : List Group) (entries : Entries) (rows : List PlacedRow) (kept : List Family) (parents : ParentLists) (spans : List Span) (firsts : List ℕ) (by_key by_file_set : Lookup) (separators : Separators) (f : DataFile) → Indexes groups entries rows kept parents spans firsts by_key by_file_set separators
-    → record { contents = contents_of groups; entries = entries } ≡ f → separators ≡ separators_of f.contents
-inside_separators groups entries rows kept parents spans firsts by_key by_file_set separators f index e = subst (λ (g : DataFile). separators ≡ separators_of g.contents) e index.separated
+  pub inside_rows : map row_of rows ≡ rows_in f
+  inside_rows = subst (λ (g : DataFile). map row_of rows ≡ rows_in g) e index.numbered
 
-pub inside_rows : (groups : List Group) (entries : Entries) (rows : List PlacedRow) (kept : List Family) (parents : ParentLists) (spans : List Span) (firsts : List ℕ) (by_key by_file_set : Lookup) (separators : Separators) (f : DataFile) → Indexes groups entries rows kept parents spans firsts by_key by_file_set separators
-    → record { contents = contents_of groups; entries = entries } ≡ f → map row_of rows ≡ rows_in f
-inside_rows groups entries rows kept parents spans firsts by_key by_file_set separators f index e = subst (λ (g : DataFile). map row_of rows ≡ rows_in g) e index.numbered
+  pub inside_firsts : AreFirstsOfKeys (rows_in f) f.entries firsts
+  inside_firsts = subst (λ (g : DataFile). AreFirstsOfKeys (rows_in g) g.entries firsts) e (subst (λ rs. AreFirstsOfKeys rs entries firsts) index.numbered index.first)
 
 pub rows_below : (rows : List PlacedRow) (found : List DataRow) (n : ℕ) → map row_of rows ≡ found → n < length found → n < length rows
 rows_below rows found n e lt = subst (λ count. n < count) (sym (ap length e) ∙ length-map rows row_of) lt
@@ -66,8 +58,3 @@ have_lookups groups entries rows parents parented placed i d lt =
     let row = get_or rows i d in
     let at_group : At groups row.place row.group.now = placed i d lt in
     (omega (arith, at_group.0, parented.each_has), λ links at_links. (parented.each row.place row.group.now links at_group at_links).stands.0)
-
-pub inside_firsts : (groups : List Group) (entries : Entries) (rows : List PlacedRow) (kept : List Family) (parents : ParentLists) (spans : List Span) (firsts : List ℕ) (by_key by_file_set : Lookup) (separators : Separators) (f : DataFile) → Indexes groups entries rows kept parents spans firsts by_key by_file_set separators
-    → record { contents = contents_of groups; entries = entries } ≡ f → AreFirstsOfKeys (rows_in f) f.entries firsts
-inside_firsts groups entries rows kept parents spans firsts by_key by_file_set separators f index e =
-    subst (λ (g : DataFile). AreFirstsOfKeys (rows_in g) g.entries firsts) e (subst (λ rs. AreFirstsOfKeys rs entries firsts) index.numbered index.first)

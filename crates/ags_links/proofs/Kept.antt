@@ -1,8 +1,8 @@
 -- What the index keeps for the groups.
 use Rattle.std.proofs.Common.{◌≡◌, ℕ, ◌+◌, ◌<◌, ◌≤◌, Bool, true, false, cond, List, [], ◌∷◌, ◌++◌, length, take, get_or, map, filter, flat_map, refl, sym, ap, subst, ◌∙◌, arith, inl, inr, Contains, All, Bor, append-nil, length-append}
 use Rattle.std.specs.List.Sorted.{IsStrictlyIncreasing}
-use Rattle.std.proofs.lemmas.List.{take_more, take_all, length-take-le, length-map, map-append, length_push}
-use Rattle.std.proofs.lemmas.List.Elements.{Contains-get_or}
+use Rattle.std.proofs.lemmas.List.{take_more, take_all, length-take-le, length-map, map-append, map_more, map_push, length_push}
+use Rattle.std.proofs.lemmas.List.Elements.{Contains-get_or, filter-append}
 use Rattle.ags_rows.specs.declared.rows.Group.{Group}
 use Rattle.ags_rows.specs.Contents.{group_contents, contents_of, fields_of}
 use Rattle.ags_rows.specs.Groups.{row_count}
@@ -124,35 +124,28 @@ first_of_group by_group rows group numbers x finds e lt at =
 
 -- ---- the headings of a list that are in a HEADING row
 
-pub filter_push : (p : List ℕ → Bool) (xs : List (List ℕ)) (x : List ℕ) → filter p (xs ++ x ∷ []) ≡ filter p xs ++ cond (p x) (x ∷ []) []
-filter_push p [] x = by_test (p x) where
-  by_test : (t : Bool) → cond t (x ∷ []) [] ≡ cond t (x ∷ []) []
-  by_test t = refl
-filter_push p (y ∷ xs) x = joined (p y) (filter_push p xs x) where
-  joined : (t : Bool) → filter p (xs ++ x ∷ []) ≡ filter p xs ++ cond (p x) (x ∷ []) [] → cond t (y ∷ filter p (xs ++ x ∷ [])) (filter p (xs ++ x ∷ [])) ≡ cond t (y ∷ filter p xs) (filter p xs) ++ cond (p x) (x ∷ []) []
-  joined true h = ap (λ l. y ∷ l) h
-  joined false h = h
-
 abbrev pub texts : List (Bor (List ℕ)) → List (List ℕ)
 texts headings = map (λ h. h.now) headings
 
 pub texts_next : (headings : List (Bor (List ℕ))) (i : ℕ) (d : Bor (List ℕ)) → i < length headings → texts (take (i + 1) headings) ≡ texts (take i headings) ++ (get_or headings i d).now ∷ []
-texts_next headings i d lt = ap texts (take_more headings i d lt) ∙ map-append (λ (h : Bor (List ℕ)). h.now) (take i headings) (get_or headings i d ∷ [])
+texts_next headings i d lt = map_more (λ (h : Bor (List ℕ)). h.now) headings i d lt
+
+-- those of the next heading and of the headings before it that pass a test
+pub passing_next : (p : List ℕ → Bool) (headings : List (Bor (List ℕ))) (i : ℕ) (d : Bor (List ℕ)) (t : Bool) → i < length headings → p (get_or headings i d).now ≡ t
+    → filter p (texts (take (i + 1) headings)) ≡ filter p (texts (take i headings)) ++ cond t ((get_or headings i d).now ∷ []) []
+passing_next p headings i d t lt tested =
+    let x = (get_or headings i d).now in
+    ap (filter p) (texts_next headings i d lt) ∙ filter-append p (texts (take i headings)) (x ∷ []) ∙ ap (λ b. filter p (texts (take i headings)) ++ cond b (x ∷ []) []) tested
 
 -- the next heading is taken
 pub heading_taken : (p : List ℕ → Bool) (old new headings : List (Bor (List ℕ))) (i : ℕ) (d : Bor (List ℕ)) → i < length headings → texts old ≡ filter p (texts (take i headings)) → p (get_or headings i d).now ≡ true
     → new ≡ old ++ get_or headings i d ∷ [] → texts new ≡ filter p (texts (take (i + 1) headings))
 heading_taken p old new headings i d lt so_far passes grown =
     let x = get_or headings i d in
-    ap texts grown ∙ map-append (λ (h : Bor (List ℕ)). h.now) old (x ∷ []) ∙ ap (λ l. l ++ x.now ∷ []) so_far
-    ∙ ap (λ t. filter p (texts (take i headings)) ++ cond t (x.now ∷ []) []) (sym passes)
-    ∙ sym (filter_push p (texts (take i headings)) x.now) ∙ ap (filter p) (sym (texts_next headings i d lt))
+    ap texts grown ∙ map_push (λ (h : Bor (List ℕ)). h.now) old x ∙ ap (λ l. l ++ x.now ∷ []) so_far ∙ sym (passing_next p headings i d true lt passes)
 
 -- the next heading is passed over
 pub heading_passed : (p : List ℕ → Bool) (old headings : List (Bor (List ℕ))) (i : ℕ) (d : Bor (List ℕ)) → i < length headings → texts old ≡ filter p (texts (take i headings)) → p (get_or headings i d).now ≡ false
     → texts old ≡ filter p (texts (take (i + 1) headings))
 heading_passed p old headings i d lt so_far fails =
-    let x = get_or headings i d in
-    so_far ∙ sym (append-nil (filter p (texts (take i headings))))
-    ∙ ap (λ t. filter p (texts (take i headings)) ++ cond t (x.now ∷ []) []) (sym fails)
-    ∙ sym (filter_push p (texts (take i headings)) x.now) ∙ ap (filter p) (sym (texts_next headings i d lt))
+    so_far ∙ sym (append-nil (filter p (texts (take i headings)))) ∙ sym (passing_next p headings i d false lt fails)

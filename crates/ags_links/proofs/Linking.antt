@@ -1,7 +1,7 @@
 -- The rows that record links name, part after part.
-use Rattle.std.proofs.Common.{◌≡◌, ℕ, ◌+◌, ◌<◌, ◌≤◌, Bool, true, false, not, eqb, List, [], ◌∷◌, ◌++◌, length, get_or, take, refl, sym, subst, ◌∙◌, arith, inl, inr, ◌⊎◌, ◌↔◌, Contains, IsTrue, Bor}
+use Rattle.std.proofs.Common.{◌≡◌, ℕ, ◌+◌, ◌<◌, ◌≤◌, Bool, true, false, not, eqb, List, [], ◌∷◌, ◌++◌, length, get_or, take, refl, sym, subst, inl, inr, ◌⊎◌, ◌↔◌, Contains, IsTrue, Bor}
 use Rattle.std.specs.List.Sorted.{IsStrictlyIncreasing}
-use Rattle.std.proofs.lemmas.Bool.{true≢false, eqb-true}
+use Rattle.std.proofs.lemmas.Bool.{true≢false}
 use Rattle.std.proofs.lemmas.List.{take_all}
 use Rattle.std.proofs.lemmas.List.Elements.{Contains-get_or, Contains-push, Contains-push_cases, Contains-append_left, Contains-append_right, Contains-append_cases}
 use Rattle.ags_links.specs.Adding.{AddsRows}
@@ -11,8 +11,9 @@ use Rattle.ags_links.specs.Indexing.{rows_in, IsNamedBy, IsNamedAmong, IsLinkedA
 use Rattle.ags_links.specs.RecordLinks.{separators_of, IsPartOf, IsBroken}
 use Rattle.ags_links.specs.Steps.{IsLinkedPart, Linked}
 use Rattle.ags_links.proofs.Kept.{texts, texts_next}
-use Rattle.ags_links.proofs.Members.{contains_head, contains_map}
+use Rattle.ags_links.proofs.Members.{contains_map, no_items, some_items}
 use Rattle.ags_links.proofs.RowLemmas.{one_at}
+use Rattle.ags_rows.proofs.Lemmas.{none_is}
 
 -- ---- what is added
 
@@ -47,7 +48,7 @@ adds_none old IsOne none = record { only = λ n h. inl h; kept = λ n h. h; all 
 -- ---- parts
 
 pub among_begins : (file : DataFile) (old : List ℕ) → AddsRows old old (IsNamedAmong file [])
-among_begins file old = adds_none old (IsNamedAmong file []) (λ n h. omega (arith, h.1.1))
+among_begins file old = adds_none old (IsNamedAmong file []) (λ n h. none_is h.0 h.1)
 
 pub among_next : (file : DataFile) (old found new rows : List ℕ) (parts : List (List ℕ)) (part : List ℕ) → AddsRows old found (IsNamedAmong file parts) → ListsRows rows (IsNamedBy file part) → new ≡ found ++ rows
     → AddsRows old new (IsNamedAmong file (parts ++ part ∷ []))
@@ -65,12 +66,10 @@ abbrev pub EachNames : DataFile → List (List ℕ) → Type 0
 EachNames file parts = (part : List ℕ) → Contains parts part → (n : ℕ) × IsNamedBy file part n
 
 some_listed : (rows : List ℕ) (IsOne : ℕ → Type 0) → ListsRows rows IsOne → (t : Bool) → t ≡ eqb (length rows) 0 → t ≡ false → (n : ℕ) × IsOne n
-some_listed [] IsOne lists t e is = absurd (true≢false (sym e ∙ is))
-some_listed (n ∷ rows) IsOne lists t e is = (n, (lists.exact n).0 (contains_head n rows))
+some_listed rows IsOne lists t e is = (get_or rows 0 0, (lists.exact (get_or rows 0 0)).0 (Contains-get_or rows 0 0 (some_items rows t e is)))
 
-pub none_listed : (rows : List ℕ) (IsOne : ℕ → Type 0) → ListsRows rows IsOne → (t : Bool) → t ≡ eqb (length rows) 0 → t ≡ true → (n : ℕ) → IsOne n → ⊥
-none_listed [] IsOne lists t e is n h = let k = (lists.exact n).1 h in omega (arith, k.1)
-none_listed (m ∷ rows) IsOne lists t e is n h = let z : length (m ∷ rows) ≡ 0 = eqb-true (length (m ∷ rows)) 0 (sym e ∙ is) in omega arith
+none_listed : (rows : List ℕ) (IsOne : ℕ → Type 0) → ListsRows rows IsOne → (t : Bool) → t ≡ eqb (length rows) 0 → t ≡ true → (n : ℕ) → IsOne n → ⊥
+none_listed rows IsOne lists t e is n h = none_is n (subst (λ l. Contains l n) (no_items rows t e is) ((lists.exact n).1 h))
 
 pub has_listed : (rows : List ℕ) (IsOne : ℕ → Type 0) → ListsRows rows IsOne → (t : Bool) → t ≡ eqb (length rows) 0 → IsTrue (not t) ↔ ((n : ℕ) × IsOne n)
 has_listed rows IsOne lists true e = (λ h. absurd (true≢false (sym h)), λ h. absurd (none_listed rows IsOne lists true e refl h.0 h.1))
@@ -92,18 +91,12 @@ linked_rows file n r parts old new row same adds = adds_same old new (IsNamedAmo
     let linked : Linked file.entries (separators_of file.contents) r h.1 = subst (λ q. Linked file.entries (separators_of file.contents) q h.1) is h.4 in
     (linked.2.0, (same linked.2.0).1 (linked.0, linked.1, linked.2.1), (h.1, h.3, linked.2.2)))
 
-nothing : (n : ℕ) → Contains {X = ℕ} [] n → ⊥
-nothing n h = omega (arith, h.1)
-
 -- each number once
 pub once_lists : (old new once : List ℕ) (IsOne : ℕ → Type 0) → old ≡ [] → AddsRows old new IsOne → ((n : ℕ) → Contains once n ↔ Contains new n) → IsStrictlyIncreasing once → ListsRows once IsOne
 once_lists old new once IsOne empty adds same rises = record {
   rising = rises;
   exact = λ n. (
-    λ h. elim (adds.only n ((same n).0 h)) [
-      | inl was ↦ absurd (nothing n (subst (λ l. Contains l n) empty was))
-      | inr is ↦ is
-    ],
+    λ h. elim (adds.only n ((same n).0 h)) [ inl was ↦ absurd (none_is n (subst (λ l. Contains l n) empty was)) | inr is ↦ is ],
     λ h. (same n).1 (adds.all n h),
   );
 }

@@ -19,7 +19,7 @@ looks_begin marks work = record {
 }
 
 -- a step to a marked row
-pub look_over : (seen : List ℕ) (t : ℕ) (old marks : List Bool) (before work : List ℕ) → Looked seen old marks before work → IsMarked marks t → Looked (seen ++ t ∷ []) old marks before work
+look_over : (seen : List ℕ) (t : ℕ) (old marks : List Bool) (before work : List ℕ) → Looked seen old marks before work → IsMarked marks t → Looked (seen ++ t ∷ []) old marks before work
 look_over seen t old marks before work so_far here = record {
   grows = so_far.grows;
   each = All-push (IsMarked marks) seen t so_far.each here;
@@ -30,7 +30,7 @@ look_over seen t old marks before work so_far here = record {
 }
 
 -- a step to a row that was not marked
-pub look_marks : (seen : List ℕ) (t : ℕ) (old marks : List Bool) (before work : List ℕ) → Looked seen old marks before work → t < length marks → get_or marks t false ≡ false → Looked (seen ++ t ∷ []) old (set marks t true) before (work ++ t ∷ [])
+look_marks : (seen : List ℕ) (t : ℕ) (old marks : List Bool) (before work : List ℕ) → Looked seen old marks before work → t < length marks → get_or marks t false ≡ false → Looked (seen ++ t ∷ []) old (set marks t true) before (work ++ t ∷ [])
 look_marks seen t old marks before work so_far row new = record {
   grows = λ r h. mark_grows marks t r (so_far.grows r h);
   each = All-push (IsMarked (set marks t true)) seen t (All-weaker (IsMarked marks) (IsMarked (set marks t true)) (mark_grows marks t) seen so_far.each) (mark_same marks t row);

@@ -1,7 +1,9 @@
 -- What a list contains, by cases on the list.
-use Rattle.std.proofs.Common.{◌≡◌, ℕ, zero, suc, ◌<◌, Bool, true, false, cond, List, [], ◌∷◌, length, get_or, map, filter, refl, sym, subst, ap, ◌∙◌, arith, inl, inr, ◌⊎◌, Contains, All, eqb}
-use Rattle.std.proofs.lemmas.Bool.{eq-eqb, eqb-true, true≢false}
-use Rattle.std.proofs.lemmas.List.Elements.{All-contains, Contains-get_or}
+use Rattle.std.proofs.Common.{◌≡◌, ℕ, suc, ◌<◌, Bool, true, false, cond, List, [], ◌∷◌, length, get_or, map, filter, refl, sym, subst, ap, ◌∙◌, arith, inl, inr, ◌⊎◌, Contains, All, eqb}
+use Rattle.std.proofs.lemmas.Bool.{cond_both, eq-eqb, eqb-true, eqb-false}
+use Rattle.std.proofs.lemmas.List.{nil_from_length}
+use Rattle.std.proofs.lemmas.List.Elements.{All-contains, All-contains_itself, All-filter, filter_passes, Contains-get_or, Contains-append_cases}
+use Rattle.ags_rows.proofs.Lemmas.{at_map, at_mapped, at_contained, contains_at, none_is, one_is}
 use Rattle.ags_links.specs.Walks.{HasStep, InRange}
 use Rattle.ags_links.specs.Work.{targets}
 
@@ -11,63 +13,38 @@ contains_head x xs = (0, omega arith, refl)
 pub contains_tail : {X : Type 0} (y : X) (xs : List X) (x : X) → Contains xs x → Contains (y ∷ xs) x
 contains_tail y xs x h = (suc h.0, omega (arith, h.1), h.2)
 
-contains_at : {X : Type 0} (y : X) (xs : List X) (x : X) (k : ℕ) → k < length (y ∷ xs) → get_or (y ∷ xs) k x ≡ x → (y ≡ x) ⊎ Contains xs x
-contains_at y xs x zero lt e = inl e
-contains_at y xs x (suc k) lt e = inr (k, omega (arith, lt), e)
-
 pub contains_cons : {X : Type 0} (y : X) (xs : List X) (x : X) → Contains (y ∷ xs) x → (y ≡ x) ⊎ Contains xs x
-contains_cons y xs x h = contains_at y xs x h.0 h.1 h.2
-
-filter_head : {X : Type 0} (t : Bool) (y : X) (xs : List X) (x : X) → y ≡ x → t ≡ true → Contains (cond t (y ∷ xs) xs) x
-filter_head true y xs x e h = subst (Contains (y ∷ xs)) e (contains_head y xs)
-filter_head false y xs x e h = cc
-
-filter_tail : {X : Type 0} (t : Bool) (y : X) (xs : List X) (x : X) → Contains xs x → Contains (cond t (y ∷ xs) xs) x
-filter_tail true y xs x h = contains_tail y xs x h
-filter_tail false y xs x h = h
+contains_cons y xs x h = elim (Contains-append_cases (y ∷ []) xs x h) [ inl k ↦ inl (one_is y x k) | inr k ↦ inr k ]
 
 -- what passes is kept
 pub contains_filter : {X : Type 0} (p : X → Bool) (xs : List X) (x : X) → Contains xs x → p x ≡ true → Contains (filter p xs) x
 contains_filter p [] x h pass = h
 contains_filter p (y ∷ xs) x h pass = elim (contains_cons y xs x h) [
-  | inl e ↦ filter_head (p y) y (filter p xs) x e (ap p e ∙ pass)
-  | inr more ↦ filter_tail (p y) y (filter p xs) x (contains_filter p xs x more pass)
+  | inl e ↦ rw (ap p e ∙ pass) (subst (Contains (y ∷ filter p xs)) e (contains_head y (filter p xs)))
+  | inr more ↦ cond_both (p y) (y ∷ filter p xs) (filter p xs) (λ l. Contains l x) (λ is. contains_tail y (filter p xs) x (contains_filter p xs x more pass)) (λ is. contains_filter p xs x more pass)
 ]
-
-filter_parts : {X : Type 0} (p : X → Bool) (t : Bool) (y : X) (xs kept : List X) (x : X) → p y ≡ t → Contains (cond t (y ∷ kept) kept) x → (Contains kept x → Contains xs x × (p x ≡ true)) → Contains (y ∷ xs) x × (p x ≡ true)
-filter_parts p true y xs kept x is h rest = elim (contains_cons y kept x h) [
-  | inl e ↦ (subst (Contains (y ∷ xs)) e (contains_head y xs), sym (ap p e) ∙ is)
-  | inr more ↦ (contains_tail y xs x (rest more).0, (rest more).1)
-]
-filter_parts p false y xs kept x is h rest = (contains_tail y xs x (rest h).0, (rest h).1)
 
 -- what is kept was there, and passes
 pub filter_contains : {X : Type 0} (p : X → Bool) (xs : List X) (x : X) → Contains (filter p xs) x → Contains xs x × (p x ≡ true)
-filter_contains p [] x h = absurd (omega (arith, h.1))
-filter_contains p (y ∷ xs) x h = filter_parts p (p y) y xs (filter p xs) x refl h (filter_contains p xs x)
+filter_contains p xs x h = (All-contains (Contains xs) (filter p xs) x (All-filter p (Contains xs) xs (All-contains_itself xs)) h, All-contains (λ y. p y ≡ true) (filter p xs) x (filter_passes p xs) h)
 
 pub contains_map : {X Y : Type 0} (f : X → Y) (xs : List X) (x : X) → Contains xs x → Contains (map f xs) (f x)
-contains_map f [] x h = absurd (omega (arith, h.1))
-contains_map f (y ∷ xs) x h = elim (contains_cons y xs x h) [
-  | inl e ↦ subst (Contains (f y ∷ map f xs)) (ap f e) (contains_head (f y) (map f xs))
-  | inr more ↦ contains_tail (f y) (map f xs) (f x) (contains_map f xs x more)
-]
+contains_map f xs x h = contains_at (map f xs) h.0 (f x) (at_map f xs h.0 x (at_contained xs x h))
 
 pub map_contains : {X Y : Type 0} (f : X → Y) (xs : List X) (z : Y) → Contains (map f xs) z → (x : X) × Contains xs x × (f x ≡ z)
-map_contains f [] z h = absurd (omega (arith, h.1))
-map_contains f (y ∷ xs) z h = elim (contains_cons (f y) (map f xs) z h) [
-  | inl e ↦ (y, contains_head y xs, e)
-  | inr more ↦ (let m = map_contains f xs z more in (m.0, contains_tail y xs m.0 m.1, m.2))
-]
+map_contains f xs z h = let m = at_mapped f xs h.0 z (at_contained (map f xs) z h) in (m.0, contains_at xs h.0 m.0 m.1, m.2)
+
+-- a list that may have one item
+pub contains_if : {X : Type 0} (t : Bool) (n m : X) → Contains (cond t (n ∷ []) []) m → (t ≡ true) × (n ≡ m)
+contains_if true n m h = (refl, one_is n m h)
+contains_if false n m h = absurd (none_is m h)
 
 -- a list of no items
 pub no_items : (xs : List ℕ) (t : Bool) → t ≡ eqb (length xs) 0 → t ≡ true → xs ≡ []
-no_items [] t e is = refl
-no_items (x ∷ xs) t e is = let z : length (x ∷ xs) ≡ 0 = eqb-true (length (x ∷ xs)) 0 (sym e ∙ is) in absurd (omega arith)
+no_items xs t e is = nil_from_length xs (eqb-true (length xs) 0 (sym e ∙ is))
 
 pub some_items : {X : Type 0} (xs : List X) (t : Bool) → t ≡ eqb (length xs) 0 → t ≡ false → 0 < length xs
-some_items [] t e is = absurd (true≢false (sym e ∙ is))
-some_items (x ∷ xs) t e is = omega arith
+some_items xs t e is = omega (arith, eqb-false (length xs) 0 (sym e ∙ is))
 
 -- a row has its steps among its targets, and nothing else
 pub target_of_step : (steps : List (ℕ × ℕ)) (r s : ℕ) → HasStep steps r s → Contains (targets steps r) s

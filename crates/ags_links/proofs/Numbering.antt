@@ -1,11 +1,14 @@
 -- The numbers of the DATA rows of a file's groups.
-use Rattle.std.proofs.Common.{◌≡◌, ℕ, zero, suc, ◌+◌, ◌-◌, ◌≤◌, inl, inr, ◌⊎◌, List, [], ◌∷◌, ◌++◌, length, get_or, take, refl, sym, ap, subst, ◌∙◌, arith, Contains}
+use Rattle.std.proofs.Common.{◌≡◌, ℕ, suc, ◌+◌, ◌-◌, ◌≤◌, inl, inr, ◌⊎◌, List, [], ◌∷◌, ◌++◌, length, get_or, take, drop, refl, sym, ap, subst, ◌∙◌, arith, Contains}
 use Rattle.std.proofs.lemmas.Bool.{cases_lt}
-use Rattle.std.proofs.lemmas.List.{length-append, length-map, get_or_append_left, get_or-append-add}
+use Rattle.std.proofs.lemmas.List.{length-append, length-map, get_or_append_left, get_or-append-add, take-append-drop, take-take}
+use Rattle.std.proofs.lemmas.List.Concat.{flat_map-append}
+use Rattle.std.proofs.Math.Seq.{take-suc, drop-cons}
 use Rattle.ags_rows.specs.Contents.{Contents}
 use Rattle.ags_rows.specs.Collecting.{At}
 use Rattle.ags_links.specs.DataRows.{DataRow, IsRowOfGroup, row_in, data_rows_of_group, data_rows, rows_before}
 use Rattle.ags_links.specs.Laws.{RowsAreNumbered, RowNumbersAreUnique, RowsBeforeAddUp}
+use Rattle.ags_links.proofs.Growing.{flat_map_push}
 use Rattle.ags_links.proofs.RowLemmas.{some_at, map_at}
 use Rattle.ags_rows.proofs.Lemmas.{at_map}
 
@@ -34,35 +37,33 @@ row_cases xs ys n r at = elim (cases_lt n (length xs)) [
 pub before_more : (g : Contents) (file : List Contents) (i : ℕ) → rows_before (g ∷ file) (suc i) ≡ length (data_rows_of_group g) + rows_before file i
 before_more g file i = length-append (data_rows_of_group g) (data_rows (take i file))
 
-pub row_at_place : (file : List Contents) (i : ℕ) (g : Contents) → At file i g → (place : ℕ) (fields : List (List ℕ)) → At g.rows place fields → At (data_rows file) (rows_before file i + place) (row_in g fields)
-row_at_place [] i g at = absurd (omega (arith, at.0))
-row_at_place (f ∷ file) zero g at = λ place fields there.
-    let e : f ≡ g = at.1 in
-    let n : place ≡ 0 + place = omega arith in
-    subst (λ (k : ℕ). At (data_rows_of_group f ++ data_rows file) k (row_in g fields)) n
-    (front_row (data_rows_of_group f) (data_rows file) place (row_in g fields) (subst (λ (x : Contents). At (data_rows_of_group x) place (row_in g fields)) (sym e) (at_map (row_in g) g.rows place fields there)))
-row_at_place (f ∷ file) (suc i) g at = λ place fields there.
-    let n : rows_before (f ∷ file) (suc i) + place ≡ length (data_rows_of_group f) + (rows_before file i + place) = omega (arith, before_more f file i) in
-    back_row (data_rows_of_group f) (data_rows file) (rows_before file i + place) (rows_before (f ∷ file) (suc i) + place) (row_in g fields) n (row_at_place file i g (omega (arith, at.0), at.1) place fields there)
+-- the rows before a group, those of the group and those after it
+rows_around : (file : List Contents) (i : ℕ) (g : Contents) → At file i g → data_rows file ≡ data_rows (take i file) ++ (data_rows_of_group g ++ data_rows (drop (suc i) file))
+rows_around file i g at =
+    ap data_rows (sym (take-append-drop i file) ∙ ap (λ gs. take i file ++ gs) (drop-cons file i g at.0 ∙ ap (λ x. x ∷ drop (suc i) file) at.1))
+    ∙ flat_map-append data_rows_of_group (take i file) (g ∷ drop (suc i) file)
 
--- all rows of a group are among those of the file
-pub before_few : (file : List Contents) (i : ℕ) (g : Contents) → At file i g → rows_before file i + length g.rows ≤ length (data_rows file)
-before_few [] i g at = absurd (omega (arith, at.0))
-before_few (f ∷ file) zero g at =
-    let e : length (data_rows_of_group f) ≡ length g.rows = length-map f.rows (row_in f) ∙ ap (λ (x : Contents). length x.rows) at.1 in
-    let z : rows_before (f ∷ file) 0 ≡ 0 = refl in
-    omega (arith, e, z, length-append (data_rows_of_group f) (data_rows file))
-before_few (f ∷ file) (suc i) g at = omega (arith, before_few file i g (omega (arith, at.0), at.1), before_more f file i, length-append (data_rows_of_group f) (data_rows file))
+-- no more than all rows are before a group
+before_all : (file : List Contents) (i : ℕ) → rows_before file i ≤ length (data_rows file)
+before_all file i =
+    let parts = ap (λ gs. length (data_rows gs)) (sym (take-append-drop i file)) ∙ ap length (flat_map-append data_rows_of_group (take i file) (drop i file)) in
+    omega (arith, parts, length-append (data_rows (take i file)) (data_rows (drop i file)))
+
+pub row_at_place : (file : List Contents) (i : ℕ) (g : Contents) → At file i g → (place : ℕ) (fields : List (List ℕ)) → At g.rows place fields → At (data_rows file) (rows_before file i + place) (row_in g fields)
+row_at_place file i g at place fields there =
+    subst (λ rows. At rows (rows_before file i + place) (row_in g fields)) (sym (rows_around file i g at))
+    (back_row (data_rows (take i file)) (data_rows_of_group g ++ data_rows (drop (suc i) file)) place (rows_before file i + place) (row_in g fields) refl
+    (front_row (data_rows_of_group g) (data_rows (drop (suc i) file)) place (row_in g fields) (at_map (row_in g) g.rows place fields there)))
 
 -- the rows before the next group
 pub before_next : (file : List Contents) (i : ℕ) (g : Contents) → At file i g → rows_before file (suc i) ≡ rows_before file i + length g.rows
-before_next [] i g at = absurd (omega (arith, at.0))
-before_next (f ∷ file) zero g at =
-    let e : length (data_rows_of_group f) ≡ length g.rows = length-map f.rows (row_in f) ∙ ap (λ (x : Contents). length x.rows) at.1 in
-    let z : rows_before (f ∷ file) 0 ≡ 0 = refl in
-    let y : rows_before file 0 ≡ 0 = refl in
-    omega (arith, e, z, y, before_more f file 0)
-before_next (f ∷ file) (suc i) g at = omega (arith, before_next file i g (omega (arith, at.0), at.1), before_more f file i, before_more f file (suc i))
+before_next file i g at =
+    ap (λ gs. length (data_rows gs)) (take-suc file i g at.0 ∙ ap (λ x. take i file ++ x ∷ []) at.1) ∙ ap length (flat_map_push data_rows_of_group (take i file) g)
+    ∙ length-append (data_rows (take i file)) (data_rows_of_group g) ∙ ap (λ n. rows_before file i + n) (length-map g.rows (row_in g))
+
+-- all rows of a group are among those of the file
+pub before_few : (file : List Contents) (i : ℕ) (g : Contents) → At file i g → rows_before file i + length g.rows ≤ length (data_rows file)
+before_few file i g at = omega (arith, before_next file i g at, before_all file (suc i))
 
 -- ---- each number is one row of one group
 
@@ -107,10 +108,7 @@ rows_are_numbered file n row = (row_of_group file n row, row_of_file file n row)
 
 -- further groups have no fewer rows before them
 before_rises : (file : List Contents) (i j : ℕ) → i ≤ j → rows_before file i ≤ rows_before file j
-before_rises file zero j le = omega arith
-before_rises file (suc i) zero le = absurd (omega (arith, le))
-before_rises [] (suc i) (suc j) le = omega arith
-before_rises (g ∷ file) (suc i) (suc j) le = omega (arith, before_more g file i, before_more g file j, before_rises file i j (omega (arith, le)))
+before_rises file i j le = subst (λ gs. length (data_rows gs) ≤ rows_before file j) (take-take i j file le) (before_all (take j file) i)
 
 -- a row of an earlier group has a smaller number
 never_earlier : (file : List Contents) (n : ℕ) (row other : DataRow) (here : IsRowOfGroup file n row) (there : IsRowOfGroup file n other) → suc here.group_place ≤ there.group_place → ⊥

@@ -2,10 +2,9 @@
 use Rattle.std.proofs.Common.{◌≡◌, ℕ, suc, ◌+◌, ◌<◌, List, [], ◌∷◌, length, refl, sym, ap, subst, ◌∙◌, arith, inl, inr, Contains}
 use Rattle.std.specs.Prelude.{◌⊎◌, slice_index_or}
 use Rattle.std.specs.List.{AllByRecursion}
-use Rattle.std.proofs.lemmas.List.Elements.{All-from_recursion, All-contains}
+use Rattle.std.proofs.lemmas.List.Elements.{All-from_recursion, recursion_from_All, All-weaker, All-contains}
 use Rattle.ags_links.specs.Laws.{OneGraph}
 use Rattle.ags_links.specs.Steps.{IsBefore, AreAscending, ListsSteps, StepAt}
-use Rattle.ags_links.specs.Walks.{StepGraph}
 use Rattle.ags_links.proofs.Members.{contains_head, contains_tail, contains_cons}
 
 pub before_then : (p q r : ℕ × ℕ) → IsBefore p q → IsBefore q r → IsBefore p r
@@ -18,10 +17,6 @@ pub never_before : (p : ℕ × ℕ) → IsBefore p p → ⊥
 never_before p (inl a) = absurd (omega (arith, a))
 never_before p (inr a) = absurd (omega (arith, a.1))
 
-all_weaker : (P Q : ℕ × ℕ → Type 0) → ((x : ℕ × ℕ) → P x → Q x) → (xs : List (ℕ × ℕ)) → AllByRecursion P xs → AllByRecursion Q xs
-all_weaker P Q weaker [] h = tt
-all_weaker P Q weaker (x ∷ xs) h = (weaker x h.0, all_weaker P Q weaker xs h.1)
-
 pub neighbours_ascend : (xs : List (ℕ × ℕ)) → ((k : ℕ) → k + 1 < length xs → IsBefore (slice_index_or xs k (0, 0)) (slice_index_or xs (k + 1) (0, 0))) → AreAscending xs
 neighbours_ascend [] h = tt
 neighbours_ascend (x ∷ []) h = (tt, tt)
@@ -29,7 +24,7 @@ neighbours_ascend (x ∷ y ∷ xs) h =
     let first : IsBefore x y = h 0 (omega arith) in
     let later = λ (k : ℕ) (low : k + 1 < length (y ∷ xs)). (let e : suc k + 1 ≡ suc (k + 1) = omega arith in subst (λ (j : ℕ). IsBefore (slice_index_or (y ∷ xs) k (0, 0)) (slice_index_or (x ∷ y ∷ xs) j (0, 0))) e (h (suc k) (omega (arith, low)))) in
     let rest = neighbours_ascend (y ∷ xs) later in
-    ((first, all_weaker (IsBefore y) (IsBefore x) (λ z after. before_then x y z first after) xs rest.0), rest)
+    ((first, recursion_from_All (IsBefore x) xs (All-weaker (IsBefore y) (IsBefore x) (λ z after. before_then x y z first after) xs (All-from_recursion (IsBefore y) xs rest.0))), rest)
 
 is_before : (x f : ℕ × ℕ) (xs : List (ℕ × ℕ)) → AllByRecursion (IsBefore x) xs → Contains xs f → IsBefore x f
 is_before x f xs h k = All-contains (IsBefore x) xs f (All-from_recursion (IsBefore x) xs h) k
@@ -62,8 +57,8 @@ pub one_list_of_steps : (steps others : List (ℕ × ℕ)) (IsOne : ℕ → ℕ 
 one_list_of_steps steps others IsOne a b =
     same_ascending steps others (steps_ascend steps IsOne a) (steps_ascend others IsOne b) (λ f h. (b.exact f.0 f.1).1 ((a.exact f.0 f.1).0 h)) (λ f h. (a.exact f.0 f.1).1 ((b.exact f.0 f.1).0 h))
 
-one_wiring : (a b : StepGraph) → a.rows ≡ b.rows → a.steps ≡ b.steps → a ≡ b
-one_wiring a b p q = λ i. record { rows = p i; steps = q i }
-
 pub one_graph : OneGraph
-one_graph file graph other a b = one_wiring graph other (a.rows ∙ sym b.rows) (one_list_of_steps graph.steps other.steps (StepAt file) a.steps b.steps)
+one_graph file graph other a b =
+    let rows = a.rows ∙ sym b.rows in
+    let steps = one_list_of_steps graph.steps other.steps (StepAt file) a.steps b.steps in
+    λ i. record { rows = rows i; steps = steps i }

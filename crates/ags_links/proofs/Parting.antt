@@ -54,16 +54,14 @@ pub linked_part : (separators : Separators) (row : DataRow) (links : List (Optio
     → IsPartAmong separators.concatenator row links part ↔ IsLinkedPart separators row part
 linked_part separators row links part e = (
   λ h.
-      let is_link = λ (g : List ℕ). bytes_eq (under row.headings row.types g) (codes "RL") in
       let from = map_contains (place_in row.headings) (record_links row.headings row.types) h.0 (subst (λ ls. Contains ls h.0) e h.1) in
-      let passed = filter_contains is_link row.headings from.0 from.1 in (
+      let passed = filter_contains (λ g. bytes_eq (under row.headings row.types g) (codes "RL")) row.headings from.0 from.1 in (
         from.0,
         (passed.0, (bytes_eq-Decides (under row.headings row.types from.0) (codes "RL")).0 passed.1, subst (λ p. field_at row.fields p ≡ [] → ⊥) (sym from.2) h.2),
         subst (λ p. Contains (parts_at separators.concatenator (field_at row.fields p)) part) (sym from.2) h.3,
       ),
   λ h.
-      let is_link = λ (g : List ℕ). bytes_eq (under row.headings row.types g) (codes "RL") in
-      let passes = contains_filter is_link row.headings h.0 h.1.0 ((bytes_eq-Decides (under row.headings row.types h.0) (codes "RL")).1 h.1.1) in (
+      let passes = contains_filter (λ g. bytes_eq (under row.headings row.types g) (codes "RL")) row.headings h.0 h.1.0 ((bytes_eq-Decides (under row.headings row.types h.0) (codes "RL")).1 h.1.1) in (
         place_in row.headings h.0,
         subst (λ ls. Contains ls (place_in row.headings h.0)) (sym e) (contains_map (place_in row.headings) (record_links row.headings row.types) h.0 passes),
         h.1.2,

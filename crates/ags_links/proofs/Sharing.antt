@@ -2,6 +2,7 @@
 use Rattle.std.proofs.Common.{◌≡◌, ℕ, ◌<◌, Option, Some, None, List, [], ◌∷◌, length, get_or, map, sym, ap, subst, ◌∙◌, arith, Contains, All}
 use Rattle.std.specs.List.Sorted.{IsStrictlyIncreasing}
 use Rattle.std.proofs.lemmas.List.{length-map}
+use Rattle.std.proofs.lemmas.Option.{none-some, same_Some}
 use Rattle.std.proofs.lemmas.List.Elements.{All-nil}
 use Rattle.ags_rows.specs.Contents.{place_in}
 use Rattle.ags_rows.specs.declared.rows.Group.{Group}
@@ -16,7 +17,6 @@ use Rattle.ags_links.specs.DataRows.{DataRow}
 use Rattle.ags_links.specs.Families.{AreKept, AreFamilies, HasText, HasGroupName, HasEntries, HasAmong}
 use Rattle.ags_links.specs.Lookups.{Finds, FindsAsked, found}
 use Rattle.ags_links.specs.ParentRows.{AreLinkHeadings, AreParentLinks, AreLookups, AreNumbers, HasParentEntries, IsParentLinks, IsAskedOf, IsParentIndex, IsPlacedAt, AreParents, ParentLinksTo, link_names, texts_in}
-use Rattle.ags_links.proofs.Answering.{some_same}
 use Rattle.ags_links.specs.Placing.{row_of}
 use Rattle.ags_links.specs.declared.placed.PlacedRow.{PlacedRow}
 use Rattle.ags_links.proofs.Finding.{asked_same}
@@ -26,27 +26,16 @@ use Rattle.ags_links.proofs.Rising.{rising_nil}
 use Rattle.ags_links.proofs.RowLemmas.{map_at, one_at, read_at, some_at}
 use Rattle.ags_links.proofs.Spelled.{key_text_same}
 
-none_some : (p : List ℕ) → None ≡ Some p → ⊥
-none_some p e = cc
-
-nil_cons : (p : List ℕ) (ps : List (List ℕ)) → [] ≡ p ∷ ps → ⊥
-nil_cons p ps e = cc
-
-heads : (p q : List ℕ) (ps qs : List (List ℕ)) → p ∷ ps ≡ q ∷ qs → (p ≡ q) × (ps ≡ qs)
-heads p q ps qs e = (cc, cc)
-
-no_names : (links : ParentLinks) → links.headings.items ≡ [] → link_names links ≡ []
-no_names links e = ap (map (λ h. h.now)) e
-
 -- ---- links with one text are the same links
 
 alike : (entries : Entries) (by_group : Lookup) (g h : Group) (l k : ParentLinks) (p q : Option (List ℕ)) → ParentLinksTo entries by_group g l p → ParentLinksTo entries by_group h k q → l.text.items ≡ k.text.items → (l.rows.now ≡ k.rows.now) × (link_names l ≡ link_names k)
-alike entries by_group g h l k None None is also e = (is.0 ∙ sym also.0, no_names l is.1 ∙ sym (no_names k also.1))
-alike entries by_group g h l k None (Some q) is also e = absurd (nil_cons q (link_names k) (key_text_same [] (q ∷ link_names k) (sym is.2 ∙ e ∙ also.2)))
-alike entries by_group g h l k (Some p) None is also e = absurd (nil_cons p (link_names l) (key_text_same [] (p ∷ link_names l) (sym also.2 ∙ sym e ∙ is.2)))
+alike entries by_group g h l k None None is also e = (is.0 ∙ sym also.0, ap (map (λ h. h.now)) (is.1 ∙ sym also.1))
+alike entries by_group g h l k None (Some q) is also e = let same : [] ≡ q ∷ link_names k = key_text_same [] (q ∷ link_names k) (sym is.2 ∙ e ∙ also.2) in absurd cc
+alike entries by_group g h l k (Some p) None is also e = let same : [] ≡ p ∷ link_names l = key_text_same [] (p ∷ link_names l) (sym also.2 ∙ sym e ∙ is.2) in absurd cc
 alike entries by_group g h l k (Some p) (Some q) is also e =
-    let same = heads p q (link_names l) (link_names k) (key_text_same (p ∷ link_names l) (q ∷ link_names k) (sym is.2 ∙ e ∙ also.2)) in
-    (is.0 ∙ ap (found by_group) same.0 ∙ sym also.0, same.1)
+    let same : p ∷ link_names l ≡ q ∷ link_names k = key_text_same (p ∷ link_names l) (q ∷ link_names k) (sym is.2 ∙ e ∙ also.2) in
+    let parent : p ≡ q = cc in
+    (is.0 ∙ ap (found by_group) parent ∙ sym also.0, cc)
 
 -- ---- the rows of a parent group
 
@@ -68,8 +57,8 @@ listed_to by_group entries rows g l (Some p) n r finds is h row =
     ap (λ q. Some q) (sym has.2 ∙ ap (λ (s : DataRow). s.group) (one_at rows n has.0 r has.1 row))
 
 to_listed : (by_group : Lookup) (entries : Entries) (rows : List DataRow) (g : Group) (l : ParentLinks) (p : Option (List ℕ)) (n : ℕ) (r : DataRow) → Finds by_group (HasText rows HasGroupName) → ParentLinksTo entries by_group g l p → p ≡ Some r.group → At rows n r → Contains l.rows.now n
-to_listed by_group entries rows g l None n r finds is e row = absurd (none_some r.group e)
-to_listed by_group entries rows g l (Some p) n r finds is e row = subst (λ ns. Contains ns n) (sym is.0) ((finds.exact p n).1 (r, row, some_same r.group p (sym e)))
+to_listed by_group entries rows g l None n r finds is e row = absurd (none-some r.group e)
+to_listed by_group entries rows g l (Some p) n r finds is e row = subst (λ ns. Contains ns n) (sym is.0) ((finds.exact p n).1 (r, row, same_Some r.group p (sym e)))
 
 -- what is found among the rows of the parent group is found among all rows
 found_in_parent : (by_group lookup : Lookup) (IsAsked : List ℕ → Type 0) (entries : Entries) (rows : List DataRow) (g : Group) (l : ParentLinks) → Finds by_group (HasText rows HasGroupName) → IsParentLinks entries by_group g l
@@ -81,9 +70,9 @@ found_in_parent by_group lookup IsAsked entries rows g l finds is so_far =
 
 headings_to : (by_group : Lookup) (entries : Entries) (rows : List DataRow) (g : Group) (l : ParentLinks) (p : Option (List ℕ)) (n : ℕ) (s : DataRow) → Finds by_group (HasText rows HasGroupName) → ParentLinksTo entries by_group g l p → At rows n s → p ≡ Some s.group
     → AreLinkHeadings entries s.group g.headings (link_names l)
-headings_to by_group entries rows g l None n s finds is row e = absurd (none_some s.group e)
+headings_to by_group entries rows g l None n s finds is row e = absurd (none-some s.group e)
 headings_to by_group entries rows g l (Some p) n s finds is row e =
-    let same : p ≡ s.group = some_same p s.group e in
+    let same : p ≡ s.group = same_Some p s.group e in
     let listed : Contains l.rows.now n = to_listed by_group entries rows g l (Some p) n s finds is e row in
     subst (λ q. AreLinkHeadings entries q g.headings (link_names l)) same (is.1 (λ empty. omega (arith, (subst (λ ns. Contains ns n) empty listed).1)))
 

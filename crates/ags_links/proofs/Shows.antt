@@ -1,6 +1,6 @@
 -- Shown rows are those that no row which is not permitted is reached from.
-use Rattle.std.proofs.Common.{◌≡◌, ℕ, zero, suc, ◌<◌, Bool, true, false, not, cond, List, [], ◌∷◌, length, get_or, map, refl, sym, subst, ap, ◌∙◌, arith, inl, inr, ◌⊎◌, ◌↔◌, Contains, count_by}
-use Rattle.std.proofs.lemmas.Bool.{true≢false}
+use Rattle.std.proofs.Common.{◌≡◌, ℕ, zero, suc, ◌<◌, Bool, true, false, not, cond, List, [], ◌∷◌, length, get_or, map, refl, sym, subst, ap, ◌∙◌, arith, inl, inr, ◌↔◌, Contains, count_by}
+use Rattle.std.proofs.lemmas.Bool.{cases_Bool, true≢false}
 use Rattle.std.proofs.lemmas.List.{get_or-map}
 use Rattle.std.proofs.lemmas.List.Elements.{All-contains, All-map}
 use Rattle.std.proofs.lemmas.List.Sums.{sum_by-cons}
@@ -31,49 +31,34 @@ not_at marks k lt = get_or-map not marks k false false lt
 reach_below : (n : ℕ) (steps : List (ℕ × ℕ)) → InRange n steps → (r s : ℕ) → Reaches (HasStep steps) r s → r < n → s < n
 reach_below n steps range r s walk lt = reach_keeps (HasStep steps) (λ x. x < n) (λ a b step _. (All-contains (λ (p : ℕ × ℕ). (p.0 < n) × (p.1 < n)) steps (a, b) range step).1) r s walk lt
 
-true_or_false : (b : Bool) → (b ≡ true) ⊎ (b ≡ false)
-true_or_false true = inl refl
-true_or_false false = inr refl
-
--- shown, where nothing that is denied leads back to the row
-shown_from : (n : ℕ) (steps : List (ℕ × ℕ)) (permitted hidden : List Bool) → InRange n steps → length permitted ≡ n → length hidden ≡ n → ((s : ℕ) → IsMarked hidden s ↔ IsReached (HasStep (map swapped steps)) (IsMarked (map not permitted)) s) → (r : ℕ) → r < n → IsMarked (map not hidden) r → IsShown (HasStep steps) (IsMarked permitted) r
-shown_from n steps permitted hidden range rows same_rows back r lt marked s walk =
-    elim (true_or_false (get_or permitted s false)) [
-      | inl is_on ↦ is_on
-      | inr is_off ↦
-          let below : s < length permitted = omega (arith, reach_below n steps range r s walk lt) in
-          let denied : IsMarked (map not permitted) s = not_at permitted s below ∙ ap not is_off in
-          let is_hidden : IsMarked hidden r = (back r).1 (s, denied, reach_back (HasStep steps) (HasStep (map swapped steps)) (step_back steps) r s walk) in
-          let is_not : get_or (map not hidden) r false ≡ false = not_at hidden r (omega arith) ∙ ap not is_hidden in
-          absurd (true≢false (sym marked ∙ is_not))
-    ]
-
-shown_to : (n : ℕ) (steps : List (ℕ × ℕ)) (permitted hidden : List Bool) → InRange n steps → length permitted ≡ n → length hidden ≡ n → ((s : ℕ) → IsMarked hidden s ↔ IsReached (HasStep (map swapped steps)) (IsMarked (map not permitted)) s) → (r : ℕ) → r < n → IsShown (HasStep steps) (IsMarked permitted) r → IsMarked (map not hidden) r
-shown_to n steps permitted hidden range rows same_rows back r lt shown =
-    elim (true_or_false (get_or hidden r false)) [
-      | inl is_on ↦
-          let from = (back r).0 is_on in
-          let walk : Reaches (HasStep steps) r from.0 = reach_back (HasStep (map swapped steps)) (HasStep steps) (back_step steps) from.0 r from.2 in
-          let below : from.0 < length permitted = omega (arith, reach_below n steps range r from.0 walk lt) in
-          let no : get_or (map not permitted) from.0 false ≡ false = not_at permitted from.0 below ∙ ap not (shown from.0 walk) in
-          absurd (true≢false (sym from.1 ∙ no))
-      | inr is_off ↦ not_at hidden r (omega arith) ∙ ap not is_off
-    ]
-
+-- shown is where nothing that is denied leads back to the row
 pub shown_iff : (n : ℕ) (steps : List (ℕ × ℕ)) (permitted hidden : List Bool) → InRange n steps → length permitted ≡ n → length hidden ≡ n → ((s : ℕ) → IsMarked hidden s ↔ IsReached (HasStep (map swapped steps)) (IsMarked (map not permitted)) s) → (r : ℕ) → r < n → IsMarked (map not hidden) r ↔ IsShown (HasStep steps) (IsMarked permitted) r
-shown_iff n steps permitted hidden range rows same_rows back r lt = (shown_from n steps permitted hidden range rows same_rows back r lt, shown_to n steps permitted hidden range rows same_rows back r lt)
-
-not_not : (b : Bool) → not (not b) ≡ b
-not_not true = refl
-not_not false = refl
+shown_iff n steps permitted hidden range rows same_rows back r lt = (
+  λ marked s walk. elim (cases_Bool (get_or permitted s false)) [
+    | inl is_on ↦ is_on
+    | inr is_off ↦
+        let below : s < length permitted = omega (arith, reach_below n steps range r s walk lt) in
+        let denied : IsMarked (map not permitted) s = not_at permitted s below ∙ ap not is_off in
+        let is_hidden : IsMarked hidden r = (back r).1 (s, denied, reach_back (HasStep steps) (HasStep (map swapped steps)) (step_back steps) r s walk) in
+        absurd (true≢false (sym marked ∙ not_at hidden r (omega arith) ∙ ap not is_hidden))
+  ],
+  λ shown. elim (cases_Bool (get_or hidden r false)) [
+    | inl is_on ↦
+        let from = (back r).0 is_on in
+        let walk : Reaches (HasStep steps) r from.0 = reach_back (HasStep (map swapped steps)) (HasStep steps) (back_step steps) from.0 r from.2 in
+        let below : from.0 < length permitted = omega (arith, reach_below n steps range r from.0 walk lt) in
+        absurd (true≢false (sym from.1 ∙ not_at permitted from.0 below ∙ ap not (shown from.0 walk)))
+    | inr is_off ↦ not_at hidden r (omega arith) ∙ ap not is_off
+  ],
+)
 
 count_not : (marks : List Bool) → count_by not (map not marks) ≡ count_by (λ m. m) marks
 count_not [] = refl
-count_not (m ∷ marks) = omega (arith, count_not marks, sum_by-cons (λ (x : Bool). cond (not x) 1 0) (not m) (map not marks), sum_by-cons (λ (x : Bool). cond x 1 0) m marks, ap (λ x. cond {A = ℕ} x 1 0) (not_not m))
+count_not (m ∷ marks) = grind (arith, count_not marks, sum_by-cons (λ (x : Bool). cond (not x) 1 0) (not m) (map not marks), sum_by-cons (λ (x : Bool). cond x 1 0) m marks)
 
 not_read : (marks : List Bool) (k : ℕ) → not (get_or (map not marks) k true) ≡ get_or marks k false
 not_read [] k = refl
-not_read (m ∷ marks) zero = not_not m
+not_read (m ∷ marks) zero = grind arith
 not_read (m ∷ marks) (suc k) = not_read marks k
 
 count_ends : (marks : List Bool) (steps : List (ℕ × ℕ)) → count_by (λ (p : ℕ × ℕ). not (get_or (map not marks) p.1 true)) steps ≡ count_by (λ (p : ℕ × ℕ). get_or marks p.0 false) (map swapped steps)

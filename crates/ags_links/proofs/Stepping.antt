@@ -2,7 +2,8 @@
 use Rattle.std.proofs.Common.{◌≡◌, ℕ, ◌+◌, ◌-◌, ◌<◌, ◌≤◌, Bool, true, false, not, List, [], ◌++◌, length, get_or, map, refl, sym, ap, subst, ◌∙◌, arith, inl, inr, ◌⊎◌, ◌↔◌, Contains, codes, ◌&&◌}
 use Rattle.std.specs.List.Sorted.{IsStrictlyIncreasing}
 use Rattle.std.specs.Str.{bytes_eq}
-use Rattle.std.proofs.lemmas.Bool.{true≢false, cases_lt}
+use Rattle.std.proofs.lemmas.Bool.{true≢false, cases_lt, and_from, and_parts, not-true}
+use Rattle.std.proofs.lemmas.Bool.Decides.{Decides-not, not_from_Decides}
 use Rattle.std.proofs.lemmas.Slice.Eq.{bytes_eq-Decides}
 use Rattle.std.proofs.lemmas.List.{get_or_append_left, get_or-append_right, get_or-map, length-append, length-map}
 use Rattle.std.proofs.lemmas.List.Elements.{Contains-append_left, Contains-append_right, Contains-append_cases, Contains-get_or}
@@ -17,29 +18,6 @@ use Rattle.ags_links.proofs.Linking.{adds_then, adds_same, adds_none, adds_liste
 use Rattle.ags_links.proofs.Members.{contains_map, map_contains}
 use Rattle.ags_links.proofs.RowLemmas.{one_at}
 
--- ---- tests
-
-both_true : (a b : Bool) → (a && b) ≡ true → (a ≡ true) × (b ≡ true)
-both_true true b e = (refl, e)
-both_true false b e = absurd (true≢false (sym e))
-
-true_both : (a b : Bool) → a ≡ true → b ≡ true → (a && b) ≡ true
-true_both true b e f = f
-true_both false b e f = absurd (true≢false (sym e))
-
-not_true : (a : Bool) → not a ≡ true → a ≡ false
-not_true true e = absurd (true≢false (sym e))
-not_true false e = refl
-
-other_bytes : (xs ys : List ℕ) → (xs ≡ ys → ⊥) → not (bytes_eq xs ys) ≡ true
-other_bytes xs ys ne = by_test (bytes_eq xs ys) refl where
-  by_test : (t : Bool) → bytes_eq xs ys ≡ t → not t ≡ true
-  by_test true e = absurd (ne ((bytes_eq-Decides xs ys).0 e))
-  by_test false e = refl
-
-bytes_differ : (xs ys : List ℕ) → not (bytes_eq xs ys) ≡ true → xs ≡ ys → ⊥
-bytes_differ xs ys e same = true≢false (sym ((bytes_eq-Decides xs ys).1 same) ∙ not_true (bytes_eq xs ys) e)
-
 -- ---- rows of FILE
 
 -- the test of a group that steps to rows of FILE
@@ -48,9 +26,9 @@ may_have_files group = not (is_definition group) && not (bytes_eq group (codes "
 
 pub file_steps : (file : DataFile) (n : ℕ) (r : DataRow) (old new rows : List ℕ) → At (rows_in file) n r → may_have_files r.group ≡ true → ListsRows rows (IsFileRowAt file n) → new ≡ old ++ rows → AddsRows old new (IsFileStepAt file n)
 file_steps file n r old new rows row may lists e =
-    let tests = both_true (not (is_definition r.group)) (not (bytes_eq r.group (codes "FILE"))) may in
-    let data_group = not_true (is_definition r.group) tests.0 in
-    let other = bytes_differ r.group (codes "FILE") tests.1 in
+    let tests = and_parts (not (is_definition r.group)) (not (bytes_eq r.group (codes "FILE"))) may in
+    let data_group = not-true (is_definition r.group) tests.0 in
+    let other = not_from_Decides (bytes_eq r.group (codes "FILE")) (bytes_eq-Decides r.group (codes "FILE")) (not-true (bytes_eq r.group (codes "FILE")) tests.1) in
     adds_same old new (IsFileRowAt file n) (IsFileStepAt file n) (adds_listed old new rows (IsFileRowAt file n) e lists)
     (λ m h.
     let is : r ≡ h.0 = one_at (rows_in file) n r h.0 row h.2 in
@@ -62,7 +40,8 @@ no_file_steps file n r old row may = adds_none old (IsFileStepAt file n) (λ m h
     let is : h.0 ≡ r = one_at (rows_in file) n h.0 r h.2 row in
     let data_group : not (is_definition r.group) ≡ true = ap (λ (q : DataRow). not (is_definition q.group)) (sym is) ∙ ap not h.4.0 in
     let other : r.group ≡ codes "FILE" → ⊥ = subst (λ (q : DataRow). q.group ≡ codes "FILE" → ⊥) is h.4.1 in
-    true≢false (sym (true_both (not (is_definition r.group)) (not (bytes_eq r.group (codes "FILE"))) data_group (other_bytes r.group (codes "FILE") other)) ∙ may))
+    let tested = (Decides-not (bytes_eq r.group (codes "FILE")) (bytes_eq-Decides r.group (codes "FILE"))).1 other in
+    true≢false (sym (and_from (not (is_definition r.group)) (not (bytes_eq r.group (codes "FILE"))) data_group tested) ∙ may))
 
 -- ---- record links
 
@@ -118,9 +97,6 @@ no_steps steps file e = record {
 abbrev from_row : ℕ → ℕ → ℕ × ℕ
 from_row n m = (n, m)
 
-before_at : (zs : List (ℕ × ℕ)) (k : ℕ) (p q : ℕ × ℕ) → get_or zs k (0, 0) ≡ p → get_or zs (k + 1) (0, 0) ≡ q → IsBefore p q → IsBefore (get_or zs k (0, 0)) (get_or zs (k + 1) (0, 0))
-before_at zs k p q e f h = subst (λ x. IsBefore x (get_or zs (k + 1) (0, 0))) (sym e) (subst (λ y. IsBefore p y) (sym f) h)
-
 target_at : (row : ℕ) (targets : List ℕ) (steps : List (ℕ × ℕ)) (k j : ℕ) → length steps ≤ k → k - length steps ≡ j → j < length targets → get_or (steps ++ map (from_row row) targets) k (0, 0) ≡ (row, get_or targets j 0)
 target_at row targets steps k j past e lt =
     get_or-append_right steps (map (from_row row) targets) (length steps) k (0, 0) refl past
@@ -134,18 +110,15 @@ sorted_more row targets steps rises sorted below k lt =
     let count : length all ≡ length steps + length targets = length-append steps (map (from_row row) targets) ∙ ap (λ n. length steps + n) (length-map targets (from_row row)) in
     elim (cases_lt (k + 1) (length steps)) [
       | inl inside ↦
-          before_at all k (get_or steps k (0, 0)) (get_or steps (k + 1) (0, 0)) (get_or_append_left steps (map (from_row row) targets) (0, 0) k (omega (arith, inside)))
-          (get_or_append_left steps (map (from_row row) targets) (0, 0) (k + 1) inside) (sorted k inside)
+          rw (get_or_append_left steps (map (from_row row) targets) (0, 0) k (omega (arith, inside)), get_or_append_left steps (map (from_row row) targets) (0, 0) (k + 1) inside) (sorted k inside)
       | inr past ↦ elim (cases_lt k (length steps)) [
         | inl last ↦
-            before_at all k (get_or steps k (0, 0)) (row, get_or targets 0 0) (get_or_append_left steps (map (from_row row) targets) (0, 0) k last)
-            (target_at row targets steps (k + 1) 0 past (omega (arith, last, past)) (omega (arith, lt, count, last, past))) (inl (below k last))
+            let next = target_at row targets steps (k + 1) 0 past (omega (arith, last, past)) (omega (arith, lt, count, last, past)) in
+            rw (get_or_append_left steps (map (from_row row) targets) (0, 0) k last, next) (inl (below k last))
         | inr after ↦
             let j : (i : ℕ) × (k - length steps ≡ i) = (k - length steps, refl) in
-            before_at all k (row, get_or targets j.0 0) (row, get_or targets (j.0 + 1) 0)
-            (target_at row targets steps k j.0 after j.1 (omega (arith, lt, count, j.1, after)))
-            (target_at row targets steps (k + 1) (j.0 + 1) past (omega (arith, j.1, after)) (omega (arith, lt, count, j.1, after)))
-            (inr (refl, rises j.0 (omega (arith, lt, count, j.1, after))))
+            let next = target_at row targets steps (k + 1) (j.0 + 1) past (omega (arith, j.1, after)) (omega (arith, lt, count, j.1, after)) in
+            rw (target_at row targets steps k j.0 after j.1 (omega (arith, lt, count, j.1, after)), next) (inr (refl, rises j.0 (omega (arith, lt, count, j.1, after))))
       ]
     ]
 

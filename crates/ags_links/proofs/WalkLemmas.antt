@@ -10,37 +10,26 @@ reach_itself Step r = ([], refl)
 pub reach_first : (Step : ℕ → ℕ → Type 0) (r s t : ℕ) → Step r s → Reaches Step s t → Reaches Step r t
 reach_first Step r s t step walk = (s ∷ walk.0, (step, walk.1))
 
-walk_last : (Step : ℕ → ℕ → Type 0) (r : ℕ) (rows : List ℕ) (s t : ℕ) → IsWalk Step r rows s → Step s t → Reaches Step r t
-walk_last Step r [] s t walk step = reach_first Step r t t (subst (λ x. Step x t) (sym walk) step) (reach_itself Step t)
-walk_last Step r (x ∷ rows) s t walk step = reach_first Step r x t walk.0 (walk_last Step x rows s t walk.1 step)
-
--- a step at the end
-pub reach_last : (Step : ℕ → ℕ → Type 0) (r s t : ℕ) → Reaches Step r s → Step s t → Reaches Step r t
-reach_last Step r s t walk step = walk_last Step r walk.0 s t walk.1 step
-
-walk_then : (Step : ℕ → ℕ → Type 0) (r : ℕ) (rows : List ℕ) (s t : ℕ) → IsWalk Step r rows s → Reaches Step s t → Reaches Step r t
-walk_then Step r [] s t walk more = subst (λ x. Reaches Step x t) (sym walk) more
-walk_then Step r (x ∷ rows) s t walk more = reach_first Step r x t walk.0 (walk_then Step x rows s t walk.1 more)
+-- what holds of the last row, and of each row from which a step leads to one of which it holds, holds of the first
+walk_from : (Step : ℕ → ℕ → Type 0) (P : ℕ → Type 0) (s : ℕ) → P s → ((r t : ℕ) → Step r t → P t → P r) → (r : ℕ) (rows : List ℕ) → IsWalk Step r rows s → P r
+walk_from Step P s last back r [] walk = subst P (sym walk) last
+walk_from Step P s last back r (x ∷ rows) walk = back r x walk.0 (walk_from Step P s last back x rows walk.1)
 
 -- one walk after another
 pub reach_then : (Step : ℕ → ℕ → Type 0) (r s t : ℕ) → Reaches Step r s → Reaches Step s t → Reaches Step r t
-reach_then Step r s t walk more = walk_then Step r walk.0 s t walk.1 more
+reach_then Step r s t walk more = walk_from Step (λ x. Reaches Step x t) s more (λ a b. reach_first Step a b t) r walk.0 walk.1
 
-walk_keeps : (Step : ℕ → ℕ → Type 0) (P : ℕ → Type 0) → ((r s : ℕ) → Step r s → P r → P s) → (r : ℕ) (rows : List ℕ) (s : ℕ) → IsWalk Step r rows s → P r → P s
-walk_keeps Step P closed r [] s walk here = subst P walk here
-walk_keeps Step P closed r (x ∷ rows) s walk here = walk_keeps Step P closed x rows s walk.1 (closed r x walk.0 here)
+-- a step at the end
+pub reach_last : (Step : ℕ → ℕ → Type 0) (r s t : ℕ) → Reaches Step r s → Step s t → Reaches Step r t
+reach_last Step r s t walk step = reach_then Step r s t walk (reach_first Step s t t step (reach_itself Step t))
 
 -- what each step keeps, a walk keeps
 pub reach_keeps : (Step : ℕ → ℕ → Type 0) (P : ℕ → Type 0) → ((r s : ℕ) → Step r s → P r → P s) → (r s : ℕ) → Reaches Step r s → P r → P s
-reach_keeps Step P closed r s walk here = walk_keeps Step P closed r walk.0 s walk.1 here
+reach_keeps Step P closed r s walk = walk_from Step (λ x. P x → P s) s (λ here. here) (λ a b step rest here. rest (closed a b step here)) r walk.0 walk.1
 
 -- steps of a larger relation
-pub walk_wider : (Step Wide : ℕ → ℕ → Type 0) → ((r s : ℕ) → Step r s → Wide r s) → (r : ℕ) (rows : List ℕ) (s : ℕ) → IsWalk Step r rows s → IsWalk Wide r rows s
-walk_wider Step Wide wider r [] s walk = walk
-walk_wider Step Wide wider r (x ∷ rows) s walk = (wider r x walk.0, walk_wider Step Wide wider x rows s walk.1)
-
 pub reach_wider : (Step Wide : ℕ → ℕ → Type 0) → ((r s : ℕ) → Step r s → Wide r s) → (r s : ℕ) → Reaches Step r s → Reaches Wide r s
-reach_wider Step Wide wider r s walk = (walk.0, walk_wider Step Wide wider r walk.0 s walk.1)
+reach_wider Step Wide wider r s walk = walk_from Step (λ x. Reaches Wide x s) s (reach_itself Wide s) (λ a b step. reach_first Wide a b s (wider a b step)) r walk.0 walk.1
 
 -- ---- under two steps that agree
 
@@ -60,12 +49,8 @@ reached_same Step Other same IsFrom s = (λ h. (h.0, h.1, (reaches_same Step Oth
 -- ---- backwards
 
 -- the walk backwards
-walk_back : (Step Back : ℕ → ℕ → Type 0) → ((r s : ℕ) → Step r s → Back s r) → (r : ℕ) (rows : List ℕ) (s : ℕ) → IsWalk Step r rows s → Reaches Back s r
-walk_back Step Back back r [] s walk = ([], sym walk)
-walk_back Step Back back r (x ∷ rows) s walk = reach_last Back s x r (walk_back Step Back back x rows s walk.1) (back r x walk.0)
-
 pub reach_back : (Step Back : ℕ → ℕ → Type 0) → ((r s : ℕ) → Step r s → Back s r) → (r s : ℕ) → Reaches Step r s → Reaches Back s r
-reach_back Step Back back r s walk = walk_back Step Back back r walk.0 s walk.1
+reach_back Step Back back r s walk = walk_from Step (Reaches Back s) s (reach_itself Back s) (λ a b step more. reach_last Back s b a more (back a b step)) r walk.0 walk.1
 
 -- one more row that a reached row leads to is reached
 pub reached_more : (Step : ℕ → ℕ → Type 0) (From : ℕ → Type 0) (r s : ℕ) → IsReached Step From r → Step r s → IsReached Step From s

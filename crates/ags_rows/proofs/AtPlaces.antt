@@ -1,7 +1,11 @@
--- The item at a place of a list: `At`, by the place and that item, and as a member.
-use Rattle.std.proofs.Common.{◌≡◌, ℕ, zero, suc, ◌+◌, ◌<◌, List, [], ◌∷◌, ◌++◌, length, get_or, map, take, Some, refl, sym, ◌∙◌, ap, arith}
+-- The item at a place of a list: `At`, by the place and that item, and as a member; and what holds of each item.
+use Rattle.std.proofs.Common.{◌≡◌, ℕ, Bool, true, false, zero, suc, ◌+◌, ◌<◌, List, [], ◌∷◌, ◌++◌, length, get_or, map, take, Some, refl, sym, ◌∙◌, ap, arith}
 use Rattle.std.specs.Prelude.{Contains, slice_get, option_map}
+use Rattle.std.specs.List.{AllByRecursion, list_all, list_any}
+use Rattle.std.proofs.lemmas.Bool.{or_parts}
 use Rattle.std.proofs.lemmas.List.{take_more}
+use Rattle.std.proofs.lemmas.List.Elements.{All-append, All-contains, All-from_recursion, All-weaker, recursion_from_All}
+use Rattle.std.proofs.lemmas.List.Sums.{AllPass-from_list_all}
 use Rattle.std.proofs.lemmas.Option.{slice_get-get_or, slice_get-map, slice_get_within, get_or_from_slice_get}
 use Rattle.ags_rows.specs.Collecting.{At}
 
@@ -48,3 +52,33 @@ at_contained xs x h = (h.1, h.2)
 -- the items up to the next place are those before this place and the item at it
 pub take_at : {X : Type 0} (xs : List X) (k : ℕ) (x : X) → At xs k x → take (k + 1) xs ≡ take k xs ++ x ∷ []
 take_at {X} xs k x at = take_more xs k x at.0 ∙ ap (λ (y : X). take k xs ++ y ∷ []) at.1
+
+-- ---- what holds of each item
+
+pub all_append : {X : Type 0} (P : X → Type 0) (a b : List X) → AllByRecursion P a → AllByRecursion P b → AllByRecursion P (a ++ b)
+all_append P a b h k = recursion_from_All P (a ++ b) (All-append P a b (All-from_recursion P a h) (All-from_recursion P b k))
+
+pub all_left : {X : Type 0} (P : X → Type 0) (a b : List X) → AllByRecursion P (a ++ b) → AllByRecursion P a
+all_left P [] b h = tt
+all_left P (x ∷ a) b h = (h.0, all_left P a b h.1)
+
+pub all_right : {X : Type 0} (P : X → Type 0) (a b : List X) → AllByRecursion P (a ++ b) → AllByRecursion P b
+all_right P [] b h = h
+all_right P (x ∷ a) b h = all_right P a b h.1
+
+pub all_weaker : {X : Type 0} {P Q : X → Type 0} → ((x : X) → P x → Q x) → (xs : List X) → AllByRecursion P xs → AllByRecursion Q xs
+all_weaker {X} {P} {Q} f xs h = recursion_from_All Q xs (All-weaker P Q f xs (All-from_recursion P xs h))
+
+pub all_at : {X : Type 0} (P : X → Type 0) (xs : List X) (k : ℕ) (x : X) → AllByRecursion P xs → At xs k x → P x
+all_at P xs k x h at = All-contains P xs x (All-from_recursion P xs h) (contains_at xs k x at)
+
+pub all_from_at : {X : Type 0} (P : X → Type 0) (xs : List X) → ((k : ℕ) (x : X) → At xs k x → P x) → AllByRecursion P xs
+all_from_at P xs h = recursion_from_All P xs (λ k d lt. h k (get_or xs k d) (at_from_read xs k (get_or xs k d) d lt refl))
+
+-- where each item passes a test, and where none does
+pub all_by_test : {X : Type 0} (P : X → Type 0) (test : X → Bool) → ((x : X) → test x ≡ true → P x) → (xs : List X) → list_all test xs ≡ true → AllByRecursion P xs
+all_by_test P test sound xs e = recursion_from_All P xs (All-weaker (λ x. test x ≡ true) P sound xs (AllPass-from_list_all test xs e))
+
+pub none_by_test : {X : Type 0} (P : X → Type 0) (test : X → Bool) → ((x : X) → test x ≡ false → P x) → (xs : List X) → list_any test xs ≡ false → AllByRecursion P xs
+none_by_test P test sound [] e = tt
+none_by_test P test sound (x ∷ xs) e = let parts = or_parts (test x) (list_any test xs) e in (sound x parts.0, none_by_test P test sound xs parts.1)

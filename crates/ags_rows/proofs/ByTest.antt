@@ -3,14 +3,14 @@ use Rattle.std.proofs.Common.{◌≡◌, ◌≢◌, ℕ, true, false, Bool, List
 use Rattle.std.specs.Prelude.{nat_lt, nat_eq, not, ◌&&◌}
 use Rattle.std.specs.List.{AllByRecursion, IsDistinct, list_all}
 use Rattle.std.specs.Str.{bytes_eq}
-use Rattle.std.proofs.lemmas.Bool.{and_parts, eqb-true, eqb-false, ltb-true}
+use Rattle.std.proofs.lemmas.Bool.{and_parts, not-true, eqb-true, eqb-false, ltb-true}
 use Rattle.std.proofs.lemmas.Slice.Eq.{bytes_eq-Decides}
 use Rattle.std.proofs.lemmas.Map.Made.{AllPairs-from_IsDistinct}
 use Rattle.ags_text.specs.Bytes.{ascii_end, carriage_return, line_feed}
 use Rattle.ags_text.specs.Names.{is_group_name, is_heading_name}
 use Rattle.ags_rows.specs.Contents.{Contents}
 use Rattle.ags_rows.specs.Writing.{IsPlainByte, ArePlain, AreDistinct, AreUnder, AreHeadings, IsWellFormedGroup, IsWellFormed, group_names}
-use Rattle.ags_rows.proofs.Repeats.{not_is}
+use Rattle.ags_rows.proofs.AtPlaces.{all_by_test}
 
 -- ---- the tests
 
@@ -45,20 +45,14 @@ is_well_formed groups = is_filled groups && (list_all is_well_formed_group group
 
 -- ---- what they say
 
-all_by_test : {X : Type 0} (P : X → Type 0) (test : X → Bool) → ((x : X) → test x ≡ true → P x) → (xs : List X) → list_all test xs ≡ true → AllByRecursion P xs
-all_by_test P test sound [] e = tt
-all_by_test P test sound (x ∷ xs) e =
-    let parts = and_parts (test x) (list_all test xs) e in
-    (sound x parts.0, all_by_test P test sound xs parts.1)
-
 plain_byte : (b : ℕ) → is_plain_byte b ≡ true → IsPlainByte b
 plain_byte b e =
     let parts = and_parts (nat_lt b 128) (not (nat_eq b 13) && not (nat_eq b 10)) e in
     let apart = and_parts (not (nat_eq b 13)) (not (nat_eq b 10)) parts.1 in
     record {
       ascii = ltb-true b 128 parts.0;
-      no_return = eqb-false b 13 (not_is (nat_eq b 13) apart.0);
-      no_feed = eqb-false b 10 (not_is (nat_eq b 10) apart.1);
+      no_return = eqb-false b 13 (not-true (nat_eq b 13) apart.0);
+      no_feed = eqb-false b 10 (not-true (nat_eq b 10) apart.1);
     }
 
 plain_fields : (fields : List (List ℕ)) → are_plain fields ≡ true → ArePlain fields
@@ -73,7 +67,7 @@ unfolding IsDistinct
 distinct [] e = tt
 distinct (text ∷ texts) e =
     let parts = and_parts (list_all (λ later. not (bytes_eq text later)) texts) (are_distinct texts) e in (
-      all_by_test (λ later. bytes_eq text later ≡ false) (λ later. not (bytes_eq text later)) (λ later apart. not_is (bytes_eq text later) apart) texts parts.0,
+      all_by_test (λ later. bytes_eq text later ≡ false) (λ later. not (bytes_eq text later)) (λ later. not-true (bytes_eq text later)) texts parts.0,
       distinct texts parts.1,
     )
 

@@ -21,8 +21,7 @@ use Rattle.ags_rows.specs.Places.{first_of, place_if, place_at}
 
 push_place : (n end : ℕ) (t : Bool) → n ≤ end
     → cond (ltb (cond (eqb n end) (end + cond t 0 1) n) (end + 1)) (Some (cond (eqb n end) (end + cond t 0 1) n)) None ≡ first_of (cond (ltb n end) (Some n) None) (cond t (Some end) None)
-push_place n end true le = grind (arith, nat_tests)
-push_place n end false le = grind (arith, nat_tests)
+push_place n end t le = grind (arith, nat_tests)
 
 pub place_push : (xs : List (List ℕ)) (x name : List ℕ) → place_in (xs ++ x ∷ []) name ≡ first_of (place_in xs name) (place_if x name (length xs))
 place_push xs x name =
@@ -72,11 +71,8 @@ added name place old new absent updates other =
 pub names_more : (cells : List (List ℕ)) (names new : List (Bor (List ℕ))) (name : Bor (List ℕ)) (i : ℕ) (d : List ℕ) → i < length cells → map (λ n. n.now) names ≡ take i cells → new ≡ names ++ name ∷ []
     → name.now ≡ get_or cells i d → map (λ n. n.now) new ≡ take (i + 1) cells
 names_more cells names new name i d lt e h is =
-    ap (λ (x : List (Bor (List ℕ))). map (λ n. n.now) x) h
-    ∙ map-append (λ (n : Bor (List ℕ)). n.now) names (name ∷ [])
-    ∙ ap (λ (x : List (List ℕ)). x ++ name.now ∷ []) e
-    ∙ ap (λ (x : List ℕ). take i cells ++ x ∷ []) is
-    ∙ sym (take_more cells i d lt)
+    ap (map (λ n. n.now)) h ∙ map-append (λ (n : Bor (List ℕ)). n.now) names (name ∷ []) ∙ ap (λ x. x ++ name.now ∷ []) e
+    ∙ ap (λ x. take i cells ++ x ∷ []) is ∙ sym (take_more cells i d lt)
 
 pub names_done : (cells : List (List ℕ)) (names : List (Bor (List ℕ))) (i : ℕ) → length cells ≤ i → map (λ n. n.now) names ≡ take i cells → map (λ n. n.now) names ≡ cells
 names_done cells names i le e = e ∙ take_all i cells le

@@ -1,7 +1,9 @@
 -- Groups have no finding where their contents are well formed, and the other way round.
-use Rattle.std.proofs.Common.{◌≡◌, ◌≢◌, ℕ, Bool, true, false, List, [], ◌∷◌, length, map, refl, sym, ap, subst, ◌∙◌, inl, inr}
+use Rattle.std.proofs.Common.{◌≡◌, ◌≢◌, ℕ, true, List, [], length, map, refl, sym, ap, subst, ◌∙◌, inl, inr}
 use Rattle.std.specs.List.{AllByRecursion}
-use Rattle.std.proofs.lemmas.Bool.{cases_eq, true_from_ne_false}
+use Rattle.std.proofs.lemmas.Bool.{both_ways, cases_eq, true_from_ne_false}
+use Rattle.std.proofs.lemmas.List.{length-map, nil_from_length}
+use Rattle.std.proofs.lemmas.Simd.{map-map}
 use Rattle.ags_rows.specs.declared.rows.Row.{Row}
 use Rattle.ags_rows.specs.declared.rows.Group.{Group}
 use Rattle.ags_rows.specs.declared.code.Code.TheVariants.{Rule2, Rule4, Rule19, Rule19a, P1, P2}
@@ -10,11 +12,10 @@ use Rattle.ags_text.specs.Names.{is_group_name, is_heading_name}
 use Rattle.ags_rows.specs.Collecting.{At, finding_at, OneOf}
 use Rattle.ags_rows.specs.Stands.{shape_rules, StandsInGroups}
 use Rattle.ags_rows.specs.Parsing.{StandsInName, StandsInHeadings}
-use Rattle.ags_rows.specs.Contents.{contents_of, fields_of, group_contents}
+use Rattle.ags_rows.specs.Contents.{Contents, contents_of, fields_of, group_contents}
 use Rattle.ags_rows.specs.Writing.{ArePlain, IsPlainGroup, AreUnder, AreHeadings, AreDistinct, group_names, IsWellFormedGroup, IsWellFormed}
-use Rattle.ags_rows.proofs.Written.{all_at}
-use Rattle.ags_rows.proofs.AtPlaces.{at_map, at_mapped}
-use Rattle.ags_rows.proofs.WellFormed.{all_from_at, once_apart, once_from}
+use Rattle.ags_rows.proofs.AtPlaces.{all_at, all_from_at, at_map, at_mapped}
+use Rattle.ags_rows.proofs.WellFormed.{once_apart, once_from}
 
 -- ---- the names of groups
 
@@ -22,13 +23,9 @@ abbrev scanned_names : List Group → List (List ℕ)
 scanned_names groups = map (λ group. group.name) groups
 
 same_names : (groups : List Group) → group_names (contents_of groups) ≡ scanned_names groups
-same_names [] = refl
-same_names (g ∷ groups) = ap (λ (names : List (List ℕ)). g.name ∷ names) (same_names groups)
+same_names groups = map-map (λ (c : Contents). c.name) group_contents groups
 
 -- ---- well formed contents break nothing
-
-not_both : (b : Bool) → b ≡ true → b ≡ false → ⊥
-not_both b t f = let e : true ≡ false = sym t ∙ f in cc
 
 shape_clear : (g : Group) → IsWellFormedGroup (group_contents g) → (f : Finding) → OneOf (shape_rules g) f → ⊥
 shape_clear g w f (inl n) = w.some_rows (ap (λ (rows : List Row). map fields_of rows) n.0)
@@ -41,14 +38,14 @@ shape_clear g w f (inr (inr (inr (inr (inl n))))) =
 shape_clear g w f (inr (inr (inr (inr (inr n))))) = n
 
 name_clear : (groups : List Group) (k : ℕ) (g : Group) → At groups k g → IsWellFormedGroup (group_contents g) → AreDistinct (scanned_names groups) → (f : Finding) → StandsInName g.line Rule19 P1 is_group_name (scanned_names groups) k g.name f → ⊥
-name_clear groups k g at w once f (inl n) = not_both (is_group_name g.name) w.name n.0
+name_clear groups k g at w once f (inl n) = both_ways (is_group_name g.name) n.0 w.name
 name_clear groups k g at w once f (inr (inl n)) = once_apart (scanned_names groups) n.0.0 k g.name g.name once n.0.1 n.0.2 (at_map (λ (x : Group). x.name) groups k g at) refl
 name_clear groups k g at w once f (inr (inr n)) = n
 
 headings_clear : (g : Group) → IsWellFormedGroup (group_contents g) → (f : Finding) → StandsInHeadings g f → ⊥
 headings_clear g w f h =
     elim h.3 [
-      | inl n ↦ not_both (is_heading_name h.1) (all_at (λ x. is_heading_name x ≡ true) g.headings h.0 h.1 w.headings.named h.2) n.0
+      | inl n ↦ both_ways (is_heading_name h.1) n.0 (all_at (λ x. is_heading_name x ≡ true) g.headings h.0 h.1 w.headings.named h.2)
       | inr (inl n) ↦ once_apart g.headings n.0.0 h.0 h.1 h.1 w.headings.once n.0.1 n.0.2 h.2 refl
       | inr (inr n) ↦ n
     ]
@@ -73,9 +70,8 @@ Clear groups = (f : Finding) → StandsInGroups groups f → ⊥
 same_count : (a b : ℕ) → (a ≢ b → ⊥) → a ≡ b
 same_count a b h = elim (cases_eq a b) [ inl e ↦ e | inr ne ↦ absurd (h ne) ]
 
-no_rows : (rows : List Row) → map fields_of rows ≡ [] → rows ≡ []
-no_rows [] e = refl
-no_rows (row ∷ rows) e = absurd cc
+none_made : {X Y : Type 0} (f : X → Y) (xs : List X) → map f xs ≡ [] → xs ≡ []
+none_made f xs e = nil_from_length xs (sym (length-map xs f) ∙ ap length e)
 
 rows_formed : (groups : List Group) → Clear groups → (k : ℕ) (g : Group) → At groups k g → AllByRecursion ArePlain (map fields_of g.rows) → AllByRecursion (AreUnder g.headings) (map fields_of g.rows)
 rows_formed groups clear k g at plain =
@@ -107,7 +103,7 @@ group_formed groups clear k g at plain = record {
     count = same_count (length g.types) (length g.headings) (λ ne. clear (finding_at g.type_line Rule4 g.name) (k, g, at, inl (inr (inr (inr (inl (ne, refl, refl, refl)))))));
     plain = plain.types;
   };
-  some_rows = λ e. clear (finding_at g.line Rule2 g.name) (k, g, at, inl (inl (no_rows g.rows e, refl, refl, refl)));
+  some_rows = λ e. clear (finding_at g.line Rule2 g.name) (k, g, at, inl (inl (none_made fields_of g.rows e, refl, refl, refl)));
   rows = rows_formed groups clear k g at plain.rows;
 }
 
@@ -120,12 +116,9 @@ names_formed groups clear =
 
 pub clear_formed : (groups : List Group) → groups ≢ [] → AllByRecursion IsPlainGroup (contents_of groups) → ((f : Finding) → StandsInGroups groups f → ⊥) → IsWellFormed (contents_of groups)
 clear_formed groups some plain clear = record {
-  some = some_contents groups some;
+  some = λ e. some (none_made group_contents groups e);
   each = all_from_at IsWellFormedGroup (contents_of groups) (λ k c here.
       let group = at_mapped group_contents groups k c here in
       subst IsWellFormedGroup group.2 (group_formed groups clear k group.0 group.1 (all_at IsPlainGroup (contents_of groups) k (group_contents group.0) plain (at_map group_contents groups k group.0 group.1))));
   names_once = subst AreDistinct (sym (same_names groups)) (names_formed groups clear);
-} where
-  some_contents : (groups : List Group) → groups ≢ [] → contents_of groups ≢ []
-  some_contents [] ne e = ne refl
-  some_contents (g ∷ groups) ne e = absurd cc
+}

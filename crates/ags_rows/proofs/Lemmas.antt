@@ -1,9 +1,8 @@
 -- What proofs and definitions of the crates above cite of this one, beside its contracts and definitions. Each is proved here: nothing in it has to be believed.
 -- The item at a place of a list, and what a list contains.
-pub use Rattle.ags_rows.proofs.AtPlaces.{at_later, at_earlier, at_from_read, at_same, at_map, at_mapped, contains_at, at_contained, take_at}
+pub use Rattle.ags_rows.proofs.AtPlaces.{at_later, at_earlier, at_from_read, at_same, at_map, at_mapped, contains_at, at_contained, take_at, all_at, all_from_at}
 pub use Rattle.ags_rows.proofs.Collecting.{none_is, is_one, one_is, before_or_at}
-pub use Rattle.ags_rows.proofs.Written.{all_at}
-pub use Rattle.ags_rows.proofs.WellFormed.{all_from_at, once_apart, once_from}
+pub use Rattle.ags_rows.proofs.WellFormed.{once_apart, once_from}
 -- Findings that are added rule by rule and element by element, sorted at the end, and of the first phase that has any.
 pub use Rattle.ags_rows.proofs.Collecting.{adds_none, adds_both, adds_same, adds_found, adds_clear, adds_unmet, among_none, among_more, among_all, one_none, one_more, one_rule, two_rules, three_rules, listed, listed_all, none_listed, found_late}
 pub use Rattle.ags_rows.proofs.WellFormed.{clear_first}

@@ -1,6 +1,6 @@
 -- Names that were met, and names that come earlier in their list.
 use Rattle.std.proofs.Common.{◌≡◌, ℕ, ◌+◌, Bool, true, false, cond, eqb, nat_cmp, List, [], ◌∷◌, length, Option, Some, refl, sym, ap, subst, ◌∙◌, arith, inl, inr}
-use Rattle.std.specs.Prelude.{◌⊎◌, ◌↔◌, is_some, not}
+use Rattle.std.specs.Prelude.{◌⊎◌, ◌↔◌, is_some}
 use Rattle.std.specs.Str.{bytes_eq}
 use Rattle.std.specs.Borrow.{Bor}
 use Rattle.std.specs.BTreeMap.{BTreeMap, UpdatesBy, is_at}
@@ -21,11 +21,7 @@ use Rattle.ags_rows.specs.Parsing.{StandsInName, IsMet, met_rules, StandsInHeadi
 use Rattle.ags_rows.proofs.Collecting.{adds_same, before_or_at}
 use Rattle.ags_rows.proofs.AtPlaces.{at_same}
 
--- ---- tests turned
-
-pub not_is : (b : Bool) → not b ≡ true → b ≡ false
-not_is true e = absurd cc
-not_is false e = refl
+-- ---- lists without items
 
 pub empties : {X : Type 0} (xs : List X) (b : Bool) → b ≡ eqb (length xs) 0 → b ≡ true → xs ≡ []
 empties xs b is e = nil_from_length xs (eqb-true (length xs) 0 (sym is ∙ e))

@@ -1,11 +1,10 @@
 -- The rows of a file by their texts: those of kind DATA, and how many there are.
 use Rattle.std.proofs.Common.{◌≡◌, ℕ, ◌+◌, ◌≤◌, List, [], ◌∷◌, ◌++◌, length, map, filter, flat_map, refl, sym, ap, ◌∙◌, arith}
-use Rattle.std.proofs.lemmas.List.{length-append, length-map}
+use Rattle.std.proofs.lemmas.List.{append-nil, length-append, length-map}
+use Rattle.std.proofs.lemmas.Simd.{map-map}
 use Rattle.std.proofs.lemmas.List.Elements.{filter-append}
 use Rattle.ags_rows.specs.declared.rows.Descriptor.TheVariants as kinds
 use Rattle.ags_rows.specs.declared.rows.Group.{Group}
-use Rattle.ags_rows.specs.Rows.{descriptor_text}
-use Rattle.ags_rows.specs.Spelling.{line_of}
 use Rattle.ags_rows.specs.Contents.{Contents, fields_of, group_contents, contents_of}
 use Rattle.ags_rows.specs.Groups.{as_file_row, rows_of, row_count}
 use Rattle.ags_rows.specs.Findings.{LooseGroups}
@@ -19,8 +18,7 @@ use Rattle.ags_rows.proofs.Texts.{with_rows}
 -- ---- the lines that are written
 
 data_texts : (name : List ℕ) (rows : List (List (List ℕ))) → map (λ line. line.content) (map (written_row kinds.Data) rows) ≡ map (λ row. row.text) (map (row_text name kinds.Data) rows ++ [])
-data_texts name [] = refl
-data_texts name (row ∷ rows) = ap (λ more. line_of (descriptor_text kinds.Data ∷ row) ∷ more) (data_texts name rows)
+data_texts name rows = simp (append-nil, map-map)
 
 lines_are_texts : (group : Contents) → map (λ line. line.content) (group_lines group) ≡ map (λ row. row.text) (row_texts (group ∷ []))
 lines_are_texts group =

@@ -1,9 +1,8 @@
 -- The contents of a file without findings are well formed.
-use Rattle.std.proofs.Common.{◌≡◌, ◌≢◌, ℕ, suc, ◌+◌, ◌<◌, ◌≤◌, true, false, List, [], ◌∷◌, ◌++◌, get_or, map, flat_map, refl, sym, ap, subst, ◌∙◌, arith, inl, inr}
+use Rattle.std.proofs.Common.{◌≡◌, ◌≢◌, ℕ, ◌+◌, ◌<◌, ◌≤◌, List, [], ◌∷◌, ◌++◌, get_or, map, flat_map, refl, sym, ap, subst, ◌∙◌, arith, inl, inr}
 use Rattle.std.specs.Prelude.{Any, nat_le, replicate}
 use Rattle.std.specs.List.{AllByRecursion, list_any}
-use Rattle.std.proofs.lemmas.Bool.{cases_eq, cases_Bool, eq-eqb, ne_eqb, or_parts, leb-true, leb-false}
-use Rattle.std.proofs.lemmas.List.Folds.{Any-from_list_any}
+use Rattle.std.proofs.lemmas.Bool.{false_from_ne_true, leb-false}
 use Rattle.ags_rows.specs.declared.rows.FileRow.{FileRow}
 use Rattle.ags_rows.specs.declared.rows.Row.{Row}
 use Rattle.ags_rows.specs.declared.rows.Group.{Group}
@@ -11,7 +10,7 @@ use Rattle.ags_rows.specs.declared.code.Code.{Code}
 use Rattle.ags_rows.specs.declared.code.Code.TheVariants as codes
 use Rattle.ags_rows.specs.declared.finding.Finding.{Finding}
 use Rattle.ags_text.specs.Bytes.{Lacks}
-use Rattle.ags_rows.specs.Spelling.{Spells, IsPiece, doubled, quoted}
+use Rattle.ags_rows.specs.Spelling.{Spells, IsPiece, quoted}
 use Rattle.ags_rows.specs.Lines.{TextLine}
 use Rattle.ags_rows.specs.Rows.{descriptor_text, IsRow, RowsFrom}
 use Rattle.ags_rows.specs.Groups.{as_file_row, rows_of}
@@ -21,34 +20,11 @@ use Rattle.ags_rows.specs.Findings.{FirstFound, FileGroups}
 use Rattle.ags_rows.specs.Parsing.{later_phases}
 use Rattle.ags_rows.specs.Contents.{contents_of, fields_of}
 use Rattle.ags_rows.specs.Writing.{IsPlainByte, ArePlain, IsPlainGroup, AreDistinct}
-use Rattle.ags_rows.proofs.AtPlaces.{at_read, at_from_read, at_later}
-
--- ---- lists whose elements have a property
-
-pub all_from_at : {X : Type 0} (P : X → Type 0) (xs : List X) → ((k : ℕ) (x : X) → At xs k x → P x) → AllByRecursion P xs
-all_from_at P [] h = tt
-all_from_at P (x ∷ xs) h = (h 0 x (omega arith, refl), all_from_at P xs (λ k y at. h (suc k) y (at_later x xs k y at)))
-
-all_left : {X : Type 0} (P : X → Type 0) (a b : List X) → AllByRecursion P (a ++ b) → AllByRecursion P a
-all_left P [] b h = tt
-all_left P (x ∷ a) b h = (h.0, all_left P a b h.1)
-
-all_right : {X : Type 0} (P : X → Type 0) (a b : List X) → AllByRecursion P (a ++ b) → AllByRecursion P b
-all_right P [] b h = h
-all_right P (x ∷ a) b h = all_right P a b h.1
+use Rattle.ags_rows.proofs.AtPlaces.{all_from_at, all_left, all_right, at_read, at_from_read, none_by_test}
+use Rattle.ags_rows.proofs.Breaking.{high_any}
+use Rattle.ags_rows.proofs.Pieces.{quoted_back}
 
 -- ---- the bytes of a field are bytes of its line
-
-doubled_back : (P : ℕ → Type 0) (f : List ℕ) → AllByRecursion P (doubled f) → AllByRecursion P f
-doubled_back P [] h = tt
-doubled_back P (b ∷ f) h =
-    elim (cases_eq b 34) [
-      | inl e ↦ let k = rw (eq-eqb b 34 e) at h in (subst P (sym e) k.0, doubled_back P f k.1.1)
-      | inr ne ↦ let k = rw (ne_eqb b 34 ne) at h in (k.0, doubled_back P f k.1)
-    ]
-
-quoted_back : (P : ℕ → Type 0) (f : List ℕ) → AllByRecursion P (quoted f) → AllByRecursion P f
-quoted_back P f h = doubled_back P f (all_left P (doubled f) (34 ∷ []) h.1)
 
 piece_back : (P : ℕ → Type 0) (piece f : List ℕ) → IsPiece piece f → AllByRecursion P piece → AllByRecursion P f
 piece_back P piece f p h =
@@ -88,18 +64,9 @@ row_plain line row r low =
 
 -- ---- lines that break nothing are ASCII
 
-none_high : (t : List ℕ) → list_any (λ b. nat_le 128 b) t ≡ false → IsLow t
-none_high [] e = tt
-none_high (b ∷ t) e = let p = or_parts (nat_le 128 b) (list_any (λ b. nat_le 128 b) t) e in (omega (arith, leb-false 128 b p.0), none_high t p.1)
-
-high_is : (t : List ℕ) → list_any (λ b. nat_le 128 b) t ≡ true → Any (λ b. 128 ≤ b) t
-high_is t e = let h = Any-from_list_any (λ b. nat_le 128 b) t e in (h.0, h.1, h.2, h.3, leb-true 128 h.1 h.4)
-
 low_text : (t : List ℕ) → (Any (λ b. 128 ≤ b) t → ⊥) → IsLow t
-low_text t none = elim (cases_Bool (list_any (λ b. nat_le 128 b) t)) [
-  | inl e ↦ absurd (none (high_is t e))
-  | inr e ↦ none_high t e
-]
+low_text t none =
+    none_by_test (λ b. b < 128) (λ b. nat_le 128 b) (λ b. leb-false 128 b) t (false_from_ne_true (list_any (λ b. nat_le 128 b) t) (λ e. none (high_any t e)))
 
 -- a finding about a line or a file
 abbrev noted : ℕ → Code → Finding

@@ -1,8 +1,8 @@
 -- The lines and rows of a file that is written.
 use Rattle.std.proofs.Common.{◌≡◌, ◌≢◌, ℕ, zero, suc, ◌+◌, ◌<◌, true, false, eqb, ltb, ◌&&◌, ◌||◌, List, [], ◌∷◌, ◌++◌, length, map, flat_map, Option, Some, None, refl, sym, ap, subst, ◌∙◌, arith, inl, inr}
-use Rattle.std.specs.Prelude.{◌⊎◌, nat_le, Bool, MatchOption, codes as bytes}
+use Rattle.std.specs.Prelude.{◌⊎◌, nat_le, MatchOption, codes as bytes}
 use Rattle.std.specs.List.{AllByRecursion, list_all}
-use Rattle.std.proofs.lemmas.Bool.{cases_eq, eq-eqb, eqb-true, ne_eqb, and_parts, or_cases, ltb-true, leb-true}
+use Rattle.std.proofs.lemmas.Bool.{eqb-true, and_parts, or_cases, ltb-true, leb-true}
 use Rattle.std.proofs.lemmas.List.{append-nil, length-append}
 use Rattle.std.proofs.lemmas.List.Elements.{All-from_recursion, All-contains}
 use Rattle.ags_rows.specs.declared.rows.Ending.TheVariants.{CrLf, Lf, Nothing}
@@ -14,7 +14,7 @@ use Rattle.ags_rows.specs.declared.rows.Row.{Row}
 use Rattle.ags_rows.specs.declared.rows.Group.{Group}
 use Rattle.ags_rows.specs.declared.finding.Finding.{Finding}
 use Rattle.ags_text.specs.Bytes.{Lacks}
-use Rattle.ags_rows.specs.Spelling.{Spells, doubled, quoted, line_of}
+use Rattle.ags_rows.specs.Spelling.{Spells, quoted, line_of}
 use Rattle.ags_rows.specs.Lines.{TextLine, Lines, line_bytes, ending_bytes, after_byte_order_mark}
 use Rattle.ags_rows.specs.Rows.{descriptor_text, IsRow, RowsFrom}
 use Rattle.ags_rows.specs.Order.{may_follow, OutOfPlace}
@@ -27,7 +27,8 @@ use Rattle.ags_rows.specs.Writing.{written_row, group_lines, empty_line, written
 use Rattle.ags_text.specs.Names.{is_capital, is_digit, is_group_name, is_heading_name}
 use Rattle.ags_rows.proofs.Fields.{same_fields, line_spells}
 use Rattle.ags_rows.proofs.Cuts.{type_ends, groups_after}
-use Rattle.ags_rows.proofs.AtPlaces.{at_earlier}
+use Rattle.ags_rows.proofs.AtPlaces.{all_append, all_at, all_by_test, all_weaker, at_earlier}
+use Rattle.ags_rows.proofs.Pieces.{quoted_all}
 use Rattle.ags_rows.proofs.Cutting.{AreCut, lines_from_cut}
 use Rattle.ags_rows.proofs.Breaking.{blank_clear, row_clear, blank_no_row, rows_join}
 
@@ -38,33 +39,7 @@ pub line_is_read : (fields : List (List ℕ)) (found : Option (List (List ℕ)))
 line_is_read fields None ne h m = absurd (m fields (line_spells fields ne h))
 line_is_read fields (Some others) ne h m = ap Some (same_fields (line_of fields) others fields m (line_spells fields ne h))
 
--- ---- lists whose elements have a property
-
-all_append : {X : Type 0} (P : X → Type 0) (a b : List X) → AllByRecursion P a → AllByRecursion P b → AllByRecursion P (a ++ b)
-all_append P [] b h k = k
-all_append P (x ∷ a) b h k = (h.0, all_append P a b h.1 k)
-
-all_weaker : {X : Type 0} {P Q : X → Type 0} → ((x : X) → P x → Q x) → (xs : List X) → AllByRecursion P xs → AllByRecursion Q xs
-all_weaker f [] h = tt
-all_weaker f (x ∷ xs) h = (f x h.0, all_weaker f xs h.1)
-
-pub all_at : {X : Type 0} (P : X → Type 0) (xs : List X) (k : ℕ) (x : X) → AllByRecursion P xs → At xs k x → P x
-all_at P [] k x h at = absurd (omega (arith, at.0))
-all_at P (y ∷ xs) zero x h at = subst P at.1 h.0
-all_at P (y ∷ xs) (suc k) x h at = all_at P xs k x h.1 (at_earlier y xs k x at)
-
 -- ---- the bytes of a line
-
-doubled_all : (P : ℕ → Type 0) (f : List ℕ) → P 34 → AllByRecursion P f → AllByRecursion P (doubled f)
-doubled_all P [] q h = tt
-doubled_all P (b ∷ f) q h =
-    elim (cases_eq b 34) [
-      | inl e ↦ rw (eq-eqb b 34 e) (q, (q, doubled_all P f q h.1))
-      | inr ne ↦ rw (ne_eqb b 34 ne) (h.0, doubled_all P f q h.1)
-    ]
-
-quoted_all : (P : ℕ → Type 0) (f : List ℕ) → P 34 → AllByRecursion P f → AllByRecursion P (quoted f)
-quoted_all P f q h = (q, all_append P (doubled f) (34 ∷ []) (doubled_all P f q h) (q, tt))
 
 line_all : (P : ℕ → Type 0) (fields : List (List ℕ)) → P 34 → P 44 → AllByRecursion (λ f. AllByRecursion P f) fields → AllByRecursion P (line_of fields)
 line_all P [] q c h = tt
@@ -75,11 +50,9 @@ plain_byte : (b : ℕ) → 13 < b → b < 128 → IsPlainByte b
 plain_byte b more less = record { ascii = less; no_return = λ e. omega (arith, e, more); no_feed = λ e. omega (arith, e, more) }
 
 plain_from : (t : List ℕ) → list_all (λ b. ltb 13 b && ltb b 128) t ≡ true → AllByRecursion IsPlainByte t
-plain_from [] e = tt
-plain_from (b ∷ t) e =
-    let p = and_parts (ltb 13 b && ltb b 128) (list_all (λ b. ltb 13 b && ltb b 128) t) e in
-    let q = and_parts (ltb 13 b) (ltb b 128) p.0 in
-    (plain_byte b (ltb-true 13 b q.0) (ltb-true b 128 q.1), plain_from t p.1)
+plain_from t e = all_by_test IsPlainByte (λ b. ltb 13 b && ltb b 128) each t e where
+  each : (b : ℕ) → ltb 13 b && ltb b 128 ≡ true → IsPlainByte b
+  each b e = let q = and_parts (ltb 13 b) (ltb b 128) e in plain_byte b (ltb-true 13 b q.0) (ltb-true b 128 q.1)
 
 descriptor_plain : (k : Descriptor) → AllByRecursion IsPlainByte (descriptor_text k)
 descriptor_plain kinds.Group = plain_from (bytes "GROUP") refl
@@ -113,15 +86,11 @@ heading_letter_plain b e = elim (or_cases (is_capital b || is_digit b) (eqb b 95
   | inr p ↦ let q = eqb-true b 95 p in plain_byte b (omega (arith, q)) (omega (arith, q))
 ]
 
-all_tested : (P : ℕ → Type 0) (p : ℕ → Bool) → ((b : ℕ) → p b ≡ true → P b) → (t : List ℕ) → list_all p t ≡ true → AllByRecursion P t
-all_tested P p each [] e = tt
-all_tested P p each (b ∷ t) e = let q = and_parts (p b) (list_all p t) e in (each b q.0, all_tested P p each t q.1)
-
 group_name_plain : (name : List ℕ) → is_group_name name ≡ true → AllByRecursion IsPlainByte name
-group_name_plain name e = all_tested IsPlainByte (λ b. is_capital b || is_digit b) group_letter_plain name (and_parts (nat_le 1 (length name) && nat_le (length name) 4) (list_all (λ b. is_capital b || is_digit b) name) e).1
+group_name_plain name e = all_by_test IsPlainByte (λ b. is_capital b || is_digit b) group_letter_plain name (and_parts (nat_le 1 (length name) && nat_le (length name) 4) (list_all (λ b. is_capital b || is_digit b) name) e).1
 
 heading_name_plain : (name : List ℕ) → is_heading_name name ≡ true → AllByRecursion IsPlainByte name
-heading_name_plain name e = all_tested IsPlainByte (λ b. (is_capital b || is_digit b) || eqb b 95) heading_letter_plain name (and_parts (nat_le 1 (length name) && nat_le (length name) 9) (list_all (λ b. (is_capital b || is_digit b) || eqb b 95) name) e).1
+heading_name_plain name e = all_by_test IsPlainByte (λ b. (is_capital b || is_digit b) || eqb b 95) heading_letter_plain name (and_parts (nat_le 1 (length name) && nat_le (length name) 9) (list_all (λ b. (is_capital b || is_digit b) || eqb b 95) name) e).1
 
 group_plain : (g : Contents) → IsWellFormedGroup g → IsPlainGroup g
 group_plain g h = record {

@@ -3,7 +3,8 @@ use Rattle.std.specs.Str.{bytes_eq}
 use Rattle.std.proofs.lemmas.List.{get_or_default, take_all}
 use Rattle.ags_links.specs.Lookups.{found, pairs_of, AreInOrder}
 use Rattle.ags_links.proofs.ByText.{Pair, key}
-use Rattle.ags_links.proofs.FirstRows.{led_step, row_found, tells, tells_not}
+use Rattle.std.proofs.lemmas.Bool.{not-false, not-true}
+use Rattle.ags_links.proofs.FirstRows.{led_step, row_found}
 use Rattle.ags_links.proofs.lookup.first_rows.Goals as goal
 use Rattle.ags_links.proofs.lookup.first_rows.Goals.{then-ne, else-ne}
 
@@ -34,9 +35,9 @@ loop-place-preserved c =
     c.ne.ensures ∙ ap (λ (z : Pair). not (bytes_eq (key z) (key x))) (get_or_default pairs c.loop-place.first f x (omega (arith, lt, c.loop-place.invariant.not_after))) in
     elim c.if-ne.branch [
       | then-ne w ↦ led_step pairs sorted c.args.lookup.now is c.requires.once c.args.count k c.loop-place.first c.loop-place.firsts.items x lt c.loop-place.invariant x (get_or pairs c.if-ne.first y) c.if-ne.first here
-          (get_or_default pairs c.if-ne.first x y (omega (arith, w.first-is, lt))) few (inl (w.first-is, tells_not (bytes_eq (key (get_or pairs c.loop-place.first x)) (key x)) (sym tested ∙ w.if-ne.true)))
+          (get_or_default pairs c.if-ne.first x y (omega (arith, w.first-is, lt))) few (inl (w.first-is, not-true (bytes_eq (key (get_or pairs c.loop-place.first x)) (key x)) (sym tested ∙ w.if-ne.true)))
       | else-ne w ↦ led_step pairs sorted c.args.lookup.now is c.requires.once c.args.count k c.loop-place.first c.loop-place.firsts.items x lt c.loop-place.invariant x (get_or pairs c.if-ne.first y) c.if-ne.first here
-          (get_or_default pairs c.if-ne.first x y (omega (arith, w.first-is, lt, c.loop-place.invariant.not_after))) few (inr (w.first-is, tells (bytes_eq (key (get_or pairs c.loop-place.first x)) (key x)) (sym tested ∙ w.if-ne.false)))
+          (get_or_default pairs c.if-ne.first x y (omega (arith, w.first-is, lt, c.loop-place.invariant.not_after))) few (inr (w.first-is, not-false (bytes_eq (key (get_or pairs c.loop-place.first x)) (key x)) (sym tested ∙ w.if-ne.false)))
     ]
 
 pub returns-clause-firsts : goal.returns-clause-firsts

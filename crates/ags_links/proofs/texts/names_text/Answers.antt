@@ -1,7 +1,8 @@
 use Rattle.std.proofs.Common.{◌++◌, ap, ◌∙◌, sym, Bor, List, ℕ}
 use Rattle.std.proofs.lemmas.List.{append-nil}
 use Rattle.ags_links.specs.KeyTexts.{ended_text}
-use Rattle.ags_links.proofs.Growing.{grow_all, grow_more, flat_map_map}
+use Rattle.std.proofs.lemmas.List.Folds.{flat_map-map}
+use Rattle.ags_links.proofs.Growing.{grow_all, grow_more}
 use Rattle.ags_links.proofs.texts.names_text.Goals as goal
 
 pub returns : goal.returns
@@ -9,7 +10,7 @@ returns c =
     let others = c.args.others.now in
     let now : Bor (List ℕ) → List ℕ = λ n. n.now in
     grow_all (λ (n : Bor (List ℕ)). ended_text n.now) (ended_text c.args.first.now) c.loop-name.text.items others c.loop-name.name-index c.loop-name-test.false c.loop-name.invariant
-    ∙ ap (λ l. ended_text c.args.first.now ++ l) (sym (flat_map_map ended_text now others))
+    ∙ ap (λ l. ended_text c.args.first.now ++ l) (sym (flat_map-map ended_text now others))
 
 pub loop-name-init : goal.loop-name-init
 loop-name-init c = c.in_ok-push_text.ensures ∙ ap (λ l. l ++ ended_text c.args.first.now) c.new-text.ensures.items ∙ sym (append-nil (ended_text c.args.first.now))
