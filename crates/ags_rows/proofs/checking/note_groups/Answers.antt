@@ -4,21 +4,12 @@ use Rattle.ags_rows.specs.Collecting.{At, OneOf}
 use Rattle.ags_rows.specs.Stands.{group_rules}
 use Rattle.ags_rows.specs.Parsing.{IsMet}
 use Rattle.ags_rows.proofs.AtPlaces.{at_map}
-use Rattle.ags_rows.proofs.Collecting.{among_none, among_more, among_all}
-use Rattle.ags_rows.proofs.Repeats.{none_met, none_before, repeat_more, group_same}
+use Rattle.ags_rows.proofs.Collecting.{among_more, among_all}
+use Rattle.ags_rows.proofs.Repeats.{repeat_more, group_same}
 use Rattle.ags_rows.proofs.checking.note_groups.Goals as goal
 
 abbrev name_of : Group → List ℕ
 name_of group = group.name
-
-pub loop-group-init : goal.loop-group-init
-loop-group-init c =
-    let groups = c.args.groups.now in
-    let names = map name_of groups in
-    record {
-      met = λ q. (λ h. absurd (none_met c.new-met.result q c.new-met.ensures.empty h), λ h. absurd (none_before names q h));
-      noted = among_none groups (λ place group. OneOf (group_rules names place group)) c.args.findings.now;
-    }
 
 pub loop-group-preserved : goal.loop-group-preserved
 loop-group-preserved c =

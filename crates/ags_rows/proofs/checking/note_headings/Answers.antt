@@ -4,17 +4,9 @@ use Rattle.ags_rows.specs.declared.code.Code.TheVariants.{Rule19a, P2}
 use Rattle.ags_text.specs.Names.{is_heading_name}
 use Rattle.ags_rows.specs.Collecting.{At, Adds, Among, OneOf}
 use Rattle.ags_rows.specs.Parsing.{StandsInName, IsMet, met_rules}
-use Rattle.ags_rows.proofs.Collecting.{among_none, among_more, among_all}
-use Rattle.ags_rows.proofs.Repeats.{none_met, none_before, repeat_more, heading_same}
+use Rattle.ags_rows.proofs.Collecting.{among_more, among_all}
+use Rattle.ags_rows.proofs.Repeats.{repeat_more, heading_same}
 use Rattle.ags_rows.proofs.checking.note_headings.Goals as goal
-
-pub loop-heading-init : goal.loop-heading-init
-loop-heading-init c =
-    let items = c.as_slice-heading-items.result.now in
-    record {
-      met = λ q. (λ h. absurd (none_met c.new-met.result q c.new-met.ensures.empty h), λ h. absurd (none_before items q h));
-      noted = among_none items (StandsInName c.args.group.now.heading_line Rule19a P2 is_heading_name items) c.args.findings.now;
-    }
 
 pub loop-heading-preserved : goal.loop-heading-preserved
 loop-heading-preserved c =

@@ -1,11 +1,8 @@
 use Rattle.std.proofs.Common.{◌≢◌, ℕ, length, sym, subst}
 use Rattle.ags_rows.specs.declared.code.Code.TheVariants.{Rule4}
 use Rattle.ags_rows.specs.Collecting.{At, Adds, Notes}
-use Rattle.ags_rows.proofs.Collecting.{among_none, among_more, among_all}
+use Rattle.ags_rows.proofs.Collecting.{among_more, among_all}
 use Rattle.ags_rows.proofs.checking.note_widths.Goals as goal
-
-pub loop-row-init : goal.loop-row-init
-loop-row-init c = among_none c.args.rows.now (λ place row. Notes row.line Rule4 c.args.name.now (length row.cells ≢ c.args.width)) c.args.findings.now
 
 pub loop-row-preserved : goal.loop-row-preserved
 loop-row-preserved c =

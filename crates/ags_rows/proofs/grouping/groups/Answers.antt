@@ -5,7 +5,7 @@ use Rattle.ags_rows.specs.declared.rows.FileRow.{FileRow}
 use Rattle.ags_rows.specs.declared.rows.Group.{Group}
 use Rattle.ags_rows.specs.Groups.{rows_of}
 use Rattle.ags_rows.specs.Parsing.{BeginsGroup}
-use Rattle.ags_rows.proofs.Cuts.{clear_begins, groups_more, fewer_rows}
+use Rattle.ags_rows.proofs.Cuts.{clear_begins, fewer_rows}
 use Rattle.ags_rows.proofs.grouping.groups.Goals as goal
 
 pub loop-alloc-init : goal.loop-alloc-init
@@ -16,13 +16,6 @@ loop-alloc-init c =
       cut = ap (λ (g : List Group). flat_map rows_of g ++ reverse c.reverse.new.self.items) c.new-groups.ensures.items ∙ back;
       begins = subst BeginsGroup (sym back) (clear_begins rows (c.requires.order, c.requires.named));
     }
-
-pub loop-alloc-preserved : goal.loop-alloc-preserved
-loop-alloc-preserved c = record {
-  cut = groups_more c.args.rows.items c.loop-alloc.groups.items c.push.new.self.items c.in_ok-group.group (reverse c.loop-alloc.rest.items) (reverse c.take_group.new.rows.items)
-      c.loop-alloc.invariant.cut c.in_ok-group.ensures.taken c.in_ok-push.ensures.items;
-  begins = c.in_ok-group.ensures.begins;
-}
 
 pub loop-alloc-smaller : goal.loop-alloc-smaller
 loop-alloc-smaller c = omega (arith, fewer_rows c.loop-alloc.rest.items c.take_group.new.rows.items c.in_ok-group.group c.in_ok-group.ensures.taken)

@@ -4,13 +4,10 @@ use Rattle.ags_rows.specs.declared.rows.Descriptor.TheVariants as kinds
 use Rattle.ags_rows.specs.Collecting.{At, Adds, Notes, OneOf}
 use Rattle.ags_rows.specs.Order.{OutOfPlace}
 use Rattle.ags_rows.specs.Stands.{row_rules}
-use Rattle.ags_rows.proofs.Collecting.{adds_found, adds_unmet, two_rules, among_none, among_more, among_all}
+use Rattle.ags_rows.proofs.Collecting.{adds_found, adds_unmet, two_rules, among_more, among_all}
 use Rattle.ags_rows.proofs.Repeats.{empties, empty}
 use Rattle.ags_rows.proofs.ordering.note_order.Goals as goal
 use Rattle.ags_rows.proofs.ordering.note_order.Goals.{then-is_empty+in_ok-note, else-is_empty, then-is_out_of_place+in_ok-note-2, else-is_out_of_place, then-is_unnamed+in_ok-note-3, else-is_unnamed}
-
-pub loop-place-init : goal.loop-place-init
-loop-place-init c = among_none c.args.rows.now (λ place row. OneOf (row_rules c.args.rows.now place row)) c.if-is_empty.findings
 
 pub loop-place-preserved : goal.loop-place-preserved
 loop-place-preserved c =
