@@ -79,9 +79,7 @@ entries_more file line group headings fields columns i d text old mid new are lt
     let h = column.heading.now in
     let e : text ≡ under group.headings fields h = same ∙ ap (field_at fields) is.place in
     columns_more (entry_rules_in file line group fields) headings columns i d old mid new are.heads lt before
-    (subst (λ (t : List ℕ). Adds (OneOf (data_entry_rules file line h (unit_over group h) (type_over group h) t)) mid new) e
-    (subst (λ (k : List ℕ). Adds (OneOf (data_entry_rules file line h (unit_over group h) k text)) mid new) is.code
-    (subst (λ (u : List ℕ). Adds (OneOf (data_entry_rules file line h u column.code.now text)) mid new) is.unit here)))
+    (rw (is.unit, is.code, e) at here)
 
 -- what is listed of a column's unit and type is what is listed of the group's
 pub header_more : (file : List Contents) (group : Group) (columns : List Column) (i : ℕ) (d : Column) (old mid half new : List Finding)

@@ -1,7 +1,7 @@
 -- Rule 20: a file set is listed in FILE where a row of FILE has it.
-use Rattle.std.proofs.Common.{◌≡◌, ◌≢◌, ℕ, Bool, true, false, List, [], refl, sym, ap, ◌∙◌}
+use Rattle.std.proofs.Common.{◌≡◌, ◌≢◌, ℕ, Bool, false, List, [], sym, ap, ◌∙◌}
 use Rattle.std.specs.Prelude.{◌↔◌, IsTrue, codes}
-use Rattle.std.proofs.lemmas.Bool.{true≢false}
+use Rattle.std.proofs.lemmas.Bool.{true≢false, false_from_ne_true}
 use Rattle.ags_rows.specs.Contents.{Contents}
 use Rattle.ags_text.specs.Names.{is_definition}
 use Rattle.ags_rows.specs.Collecting.{At}
@@ -25,10 +25,6 @@ file_row_lists file n row at h =
 lists_file_row : (file : List Contents) (n : ℕ) (row : DataRow) → At (data_rows file) n row → file_set row ≢ [] → IsListed file (codes "FILE") (codes "FILE_FSET") (file_set row) → HasFileRow file n
 lists_file_row file n row at some l = (l.1.0, (row, l.0, at, (l.1.1, l.1.2), (l.2, some, l.3)))
 
-has_none : (file : List Contents) (n : ℕ) (row : DataRow) (has : Bool) → At (data_rows file) n row → IsTrue has ↔ HasFileRow file n → (IsListed file (codes "FILE") (codes "FILE_FSET") (file_set row) → ⊥) → has ≡ false
-has_none file n row true at means none = absurd (none (file_row_lists file n row at (means.0 refl)))
-has_none file n row false at means none = refl
-
 -- a file set that is not null is unlisted where no row of FILE has it
 pub file_set_means : (file : List Contents) (n : ℕ) (row : DataRow) (has b : Bool) → At (data_rows file) n row → IsTrue has ↔ HasFileRow file n
     → IsTrue b ↔ (is_definition row.group ≡ false) × (row.group ≢ codes "FILE") × ((file_set row ≢ []) × (has ≡ false)) → IsTrue b ↔ IsUnlistedFileSet file row
@@ -37,5 +33,5 @@ file_set_means file n row has b at means holds = (
       let h = holds.0 e in
       (h.0, h.1, (h.2.0, λ l. true≢false (sym (means.1 (lists_file_row file n row at h.2.0 l)) ∙ h.2.1)))
       ),
-  λ u. holds.1 (u.0, u.1, (u.2.0, has_none file n row has at means u.2.1)),
+  λ u. holds.1 (u.0, u.1, (u.2.0, false_from_ne_true has (λ e. u.2.1 (file_row_lists file n row at (means.0 e))))),
 )

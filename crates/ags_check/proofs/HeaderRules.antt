@@ -1,8 +1,7 @@
 -- From what is noted of names to the rules of the HEADING row.
-use Rattle.std.proofs.Common.{◌≡◌, ℕ, Option, Some, None, List, refl, sym, subst, inl, inr}
-use Rattle.std.specs.Prelude.{Contains, IsSome}
+use Rattle.std.proofs.Common.{◌≡◌, ℕ, Option, Some, None, List, refl, sym, ap, subst, inl, inr}
+use Rattle.std.specs.Prelude.{Contains, IsSome, is_some}
 use Rattle.std.proofs.lemmas.Bool.{true≢false}
-use Rattle.std.proofs.lemmas.Option.{none-some}
 use Rattle.ags_rows.specs.declared.code.Code.{Code}
 use Rattle.ags_rows.specs.declared.finding.Finding.{Finding}
 use Rattle.ags_rows.specs.declared.rows.Group.{Group}
@@ -35,17 +34,21 @@ OnlyIn this that name = Contains this name × ¬ (Contains that name)
 
 -- ---- the rules
 
+-- what is noted of the names of one list that are not in another
+only_in : (group : Group) (code : Code) (names listed that : List (List ℕ)) (old new : List Finding) → names ≡ listed
+    → Adds (AtNames group.heading_line code names (λ _ name. place_in that name ≡ None)) old new → Adds (AtHeading code (OnlyIn listed that) group) old new
+only_in group code names listed that old new same x =
+    at_heading names group code (λ _ name. place_in that name ≡ None) (OnlyIn listed that) old new
+    (λ place name at none. (subst (λ (l : List (List ℕ)). Contains l name) same (contains_at names place name at), λ h. placed that name h none))
+    (λ name rule.
+    let h = subst (λ (l : List (List ℕ)). Contains l name) (sym same) rule.0 in
+    (h.0, at_contained names name h, unplaced that name rule.1))
+    x
+
 pub unknown_rule : (entries : Entries) (group : Group) (code : Code) (names : List (List ℕ)) (old new : List Finding) → names ≡ group.headings
     → Adds (AtNames group.heading_line code names (λ _ name. place_in (order_of entries group.name) name ≡ None)) old new
     → Adds (AtHeading code (OnlyIn group.headings (order_of entries group.name)) group) old new
-unknown_rule entries group code names old new same x =
-    let order = order_of entries group.name in
-    at_heading names group code (λ _ name. place_in order name ≡ None) (OnlyIn group.headings (order_of entries group.name)) old new
-    (λ place name at none. (subst (λ (l : List (List ℕ)). Contains l name) same (contains_at names place name at), λ h. placed order name h none))
-    (λ name rule.
-    let h = subst (λ (l : List (List ℕ)). Contains l name) (sym same) rule.0 in
-    (h.0, at_contained names name h, unplaced order name rule.1))
-    x
+unknown_rule entries group code names old new same x = only_in group code names group.headings (order_of entries group.name) old new same x
 
 pub misplaced_rule : (entries : Entries) (group : Group) (code : Code) (names : List (List ℕ)) (old new : List Finding) → names ≡ group.headings
     → Adds (AtNames group.heading_line code names (IsOvertaken (order_of entries group.name) names)) old new
@@ -66,25 +69,15 @@ misplaced_rule entries group code names old new same x =
 -- a heading of the list that is not in the row
 pub lacking_rule : (group : Group) (code : Code) (names listed : List (List ℕ)) (old new : List Finding) → names ≡ listed
     → Adds (AtNames group.heading_line code names (λ _ name. place_in group.headings name ≡ None)) old new → Adds (AtHeading code (OnlyIn listed group.headings) group) old new
-lacking_rule group code names listed old new same x =
-    at_heading names group code (λ _ name. place_in group.headings name ≡ None) (OnlyIn listed group.headings) old new
-    (λ place name at none. (subst (λ (l : List (List ℕ)). Contains l name) same (contains_at names place name at), λ h. placed group.headings name h none))
-    (λ name rule.
-    let h = subst (λ (l : List (List ℕ)). Contains l name) (sym same) rule.0 in
-    (h.0, at_contained names name h, unplaced group.headings name rule.1))
-    x
+lacking_rule group code names listed old new same x = only_in group code names listed group.headings old new same x
 
-some_place : (place : Option ℕ) → IsSome place → (i : ℕ) × (place ≡ Some i)
-some_place None h = absurd (true≢false (sym h))
-some_place (Some i) h = (i, refl)
+pub some_there : {X : Type 0} (o : Option X) → IsSome o → (x : X) × (o ≡ Some x)
+some_there None h = absurd (true≢false (sym h))
+some_there (Some x) h = (x, refl)
 
-some_from : (place : Option ℕ) (i : ℕ) → place ≡ Some i → IsSome place
-some_from None i e = absurd (none-some i e)
-some_from (Some j) i e = refl
-
-has_some : (names : List (List ℕ)) (name : List ℕ) → Contains names name → IsSome (place_in names name)
+pub has_some : (names : List (List ℕ)) (name : List ℕ) → Contains names name → IsSome (place_in names name)
 has_some names name h = elim (place_of (place_in names name)) [
-  | inl k ↦ some_from (place_in names name) k.0 k.1
+  | inl k ↦ ap is_some k.1
   | inr e ↦ absurd (placed names name h e)
 ]
 
@@ -96,7 +89,7 @@ misnamed_rule given entries group code names old new same x =
     let given_order = order_of given group.name in
     at_heading names group code (λ _ name. IsMisnamedBy given entries group.name name) (IsMisnamed given entries (group_contents group)) old new
     (λ place name at m.
-    let some = some_place (place_in order name) m.known in
+    let some = some_there (place_in order name) m.known in
     let stands = subst (λ (l : List (List ℕ)). Contains l name) same (contains_at names place name at) in
     (stands, (has_place order name some.0 some.1, λ h. placed given_order name h m.own), m.other_name, m.nowhere_else))
     (λ name rule.

@@ -1,6 +1,6 @@
 -- Record links, and entries that are null.
 use Rattle.std.proofs.Common.{◌≡◌, ◌≢◌, ℕ, ◌<◌, Bool, true, false, eqb, List, [], ◌∷◌, length, get_or, refl, sym, ap, subst, ◌∙◌, arith, inl, inr}
-use Rattle.std.specs.Prelude.{◌↔◌, IsTrue, Contains, codes}
+use Rattle.std.specs.Prelude.{◌↔◌, IsTrue, codes}
 use Rattle.std.proofs.lemmas.Bool.{true≢false, eqb-true}
 use Rattle.ags_rows.specs.declared.finding.Finding.{Finding}
 use Rattle.ags_rows.specs.Collecting.{Adds, Notes}
@@ -21,11 +21,14 @@ use Rattle.ags_check.proofs.EntryNotes.{heading_at, heading_of}
 pub text_same : (group : Contents) (column : Column) (fields : List (List ℕ)) (text : List ℕ) → IsColumn group column → text ≡ column_text column fields → text ≡ under group.headings fields column.heading.now
 text_same group column fields text is same = same ∙ ap (field_at fields) is.place
 
-link_means : (entries : Entries) (file : List Contents) (group : Contents) (column : Column) (fields : List (List ℕ)) (text : List ℕ) (b : Bool)
-    → IsColumn group column → text ≡ column_text column fields → Contains group.headings column.heading.now → is_definition group.name ≡ false
-    → IsTrue b ↔ (column.code.now ≡ codes "RL") × (text ≢ []) × IsBroken entries (separators_of file) (data_rows file) (row_in group fields) column.heading.now
-    → IsTrue b ↔ IsBrokenLink entries file (row_in group fields) column.heading.now
-link_means entries file group column fields text b is same stands data_group means =
+pub link_at : (entries : Entries) (file : List Contents) (group : Contents) (fields : List (List ℕ)) (columns : List Column) (i : ℕ) (d : Column) (text : List ℕ) (b : Bool)
+    → AreColumns group group.headings columns → is_definition group.name ≡ false → i < length columns → text ≡ column_text (get_or columns i d) fields
+    → IsTrue b ↔ ((get_or columns i d).code.now ≡ codes "RL") × (text ≢ []) × IsBroken entries (separators_of file) (data_rows file) (row_in group fields) (heading_of (get_or columns i d))
+    → IsTrue b ↔ IsBrokenLink entries file (row_in group fields) (heading_of (get_or columns i d))
+link_at entries file group fields columns i d text b are data_group lt same means =
+    let column = get_or columns i d in
+    let is : IsColumn group column = are.each i d lt in
+    let stands = contains_at group.headings i (heading_of column) (heading_at group.headings columns i d are.heads lt) in
     let there : text ≡ under group.headings fields column.heading.now = text_same group column fields text is same in (
       λ e. (
           let h = means.0 e in
@@ -33,14 +36,6 @@ link_means entries file group column fields text b is same stands data_group mea
           ),
       λ link. means.1 (is.code ∙ link.1.1, λ n. link.1.2 (sym there ∙ n), link.2),
     )
-
-pub link_at : (entries : Entries) (file : List Contents) (group : Contents) (fields : List (List ℕ)) (columns : List Column) (i : ℕ) (d : Column) (text : List ℕ) (b : Bool)
-    → AreColumns group group.headings columns → is_definition group.name ≡ false → i < length columns → text ≡ column_text (get_or columns i d) fields
-    → IsTrue b ↔ ((get_or columns i d).code.now ≡ codes "RL") × (text ≢ []) × IsBroken entries (separators_of file) (data_rows file) (row_in group fields) (heading_of (get_or columns i d))
-    → IsTrue b ↔ IsBrokenLink entries file (row_in group fields) (heading_of (get_or columns i d))
-link_at entries file group fields columns i d text b are data_group lt same means =
-    let stands = contains_at group.headings i (heading_of (get_or columns i d)) (heading_at group.headings columns i d are.heads lt) in
-    link_means entries file group (get_or columns i d) fields text b (are.each i d lt) same stands data_group means
 
 -- a row of a definition group has no link that is broken
 pub no_links : (entries : Entries) (file : List Contents) (line : ℕ) (group : Contents) (fields headings : List (List ℕ)) (old : List Finding)

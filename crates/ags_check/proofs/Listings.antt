@@ -1,8 +1,9 @@
 -- What the rows of the groups of a name have, and what is looked up of it.
 use Rattle.std.proofs.Common.{◌≡◌, ◌≢◌, ℕ, Bool, true, false, not, cond, List, [], ◌∷◌, ◌++◌, map, take, length, get_or, flat_map, ◌+◌, ◌<◌, None, refl, sym, ap, subst, ◌∙◌, inl, inr, append_assoc}
-use Rattle.std.specs.Prelude.{◌↔◌, ◌&&◌, IsTrue, Contains, codes}
+use Rattle.std.specs.Prelude.{◌↔◌, IsTrue, Contains, codes}
+use Rattle.std.specs.Cmp.Derive.{both_true}
 use Rattle.std.specs.Str.{bytes_eq}
-use Rattle.std.proofs.lemmas.Bool.{true≢false, cond-true}
+use Rattle.std.proofs.lemmas.Bool.{true≢false, and_parts, cond-true, false_from_ne_true, not-true}
 use Rattle.std.proofs.lemmas.List.{append-nil, map-append, take_more}
 use Rattle.std.proofs.lemmas.List.Concat.{flat_map-append}
 use Rattle.std.proofs.lemmas.List.Elements.{Contains-append_left, Contains-append_right, Contains-append_cases}
@@ -96,22 +97,13 @@ unlisted_by file name heading text texts b same means = (
 
 -- ---- abbreviations
 
-and_true : (a b : Bool) → (a && b) ≡ true → (a ≡ true) × (b ≡ true)
-and_true true b e = (refl, e)
-and_true false b e = absurd (true≢false (sym e))
-
-both_true : (a b : Bool) → a ≡ true → b ≡ true → (a && b) ≡ true
-both_true true b x y = y
-both_true false b x y = absurd (true≢false (sym x))
-
 same_pair : (heading text : List ℕ) (pair : List ℕ × List ℕ) → is_pair heading text pair ≡ true → pair ≡ (heading, text)
 same_pair heading text pair e =
-    let k = and_true (bytes_eq pair.0 heading) (bytes_eq pair.1 text) e in
+    let k = and_parts (bytes_eq pair.0 heading) (bytes_eq pair.1 text) e in
     ap (λ (x : List ℕ). (x, pair.1)) ((bytes_eq-Decides pair.0 heading).0 k.0) ∙ ap (λ (y : List ℕ). (heading, y)) ((bytes_eq-Decides pair.1 text).0 k.1)
 
 pair_itself : (heading text : List ℕ) → is_pair heading text (heading, text) ≡ true
-pair_itself heading text =
-    both_true (bytes_eq heading heading) (bytes_eq text text) ((bytes_eq-Decides heading heading).1 refl) ((bytes_eq-Decides text text).1 refl)
+pair_itself heading text = both_true ((bytes_eq-Decides heading heading).1 refl) ((bytes_eq-Decides text text).1 refl)
 
 -- a pair of the set is an abbreviation
 pub pair_is : (file : List Contents) (held : PairSet) (heading text : List ℕ) → HasPairs held (abbreviations file) → has_pair held heading text ≡ true → IsAbbreviation file heading text
@@ -129,18 +121,6 @@ is_pair_of file held heading text has h =
     let there = row_read (codes "ABBR") abbreviation_in file (heading, text) (read_of (codes "ABBR") abbreviation_in file h.0 (heading, text) h.1 h.2 both) in
     has heading text ∙ list_any-from_Any (is_pair heading text) (abbreviations file) (there.0, (heading, text), there.1, there.2, pair_itself heading text)
 
-pub not_true : (b : Bool) → not b ≡ true → b ≡ true → ⊥
-not_true true e h = true≢false (sym e)
-not_true false e h = true≢false (sym h)
-
-pub true_not : (b : Bool) → (b ≡ true → ⊥) → not b ≡ true
-true_not true h = absurd (h refl)
-true_not false h = refl
-
-false_from : (b : Bool) → (b ≡ true → ⊥) → b ≡ false
-false_from true h = absurd (h refl)
-false_from false h = refl
-
 -- what is not in the set, nor in all of its parts, is unlisted
 pub unlisted_pair : (file : List Contents) (held : PairSet) (separator : ℕ) (heading text : List ℕ) (b : Bool) → HasPairs held (abbreviations file) → separator ≡ (separators_of file).concatenator
     → IsTrue b ↔ (text ≢ []) × (has_pair held heading text ≡ false) × (lacks_part held separator heading text ≡ true) → IsTrue b ↔ IsUnlistedAbbreviation file heading text
@@ -149,14 +129,14 @@ unlisted_pair file held separator heading text b has same means = (
       let h = means.0 e in
       let found = Any-from_list_any (λ part. not (has_pair held heading part)) (parts_at separator text) h.2 in
       let is_part = subst (λ (s : ℕ). Contains (parts_at s text) found.1) same (found.0, found.2, found.3) in
-      (h.0, λ k. true≢false (sym (is_pair_of file held heading text has k) ∙ h.1), (found.1, is_part, λ k. not_true (has_pair held heading found.1) found.4 (is_pair_of file held heading found.1 has k))),
+      (h.0, λ k. true≢false (sym (is_pair_of file held heading text has k) ∙ h.1), (found.1, is_part, λ k. true≢false (sym (is_pair_of file held heading found.1 has k) ∙ not-true (has_pair held heading found.1) found.4))),
   λ r.
       let part = subst (λ (s : ℕ). Contains (parts_at s text) r.2.0) (sym same) r.2.1 in
       means.1 (
         r.0,
-        false_from (has_pair held heading text) (λ e. r.1 (pair_is file held heading text has e)),
+        false_from_ne_true (has_pair held heading text) (λ e. r.1 (pair_is file held heading text has e)),
         list_any-from_Any (λ p. not (has_pair held heading p)) (parts_at separator text)
-            (part.0, r.2.0, part.1, part.2, true_not (has_pair held heading r.2.0) (λ e. r.2.2 (pair_is file held heading r.2.0 has e))),
+            (part.0, r.2.0, part.1, part.2, ap not (false_from_ne_true (has_pair held heading r.2.0) (λ e. r.2.2 (pair_is file held heading r.2.0 has e)))),
       ),
 )
 

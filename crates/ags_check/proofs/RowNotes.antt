@@ -1,7 +1,7 @@
 -- What is noted of a DATA row as a whole.
-use Rattle.std.proofs.Common.{◌≡◌, ◌≢◌, ℕ, Bool, true, not, ltb, Option, Some, None, List, [], ◌∷◌, refl, sym, ap, subst, ◌∙◌, arith}
+use Rattle.std.proofs.Common.{◌≡◌, ◌≢◌, ℕ, Bool, true, not, ltb, List, [], ◌∷◌, sym, ap, subst, ◌∙◌, arith}
 use Rattle.std.specs.Prelude.{◌↔◌, IsTrue, is_some, codes}
-use Rattle.std.proofs.lemmas.Bool.{true≢false, lt-ltb, ltb-true}
+use Rattle.std.proofs.lemmas.Bool.{true≢false, false_from_ne_true, lt-ltb, ltb-true, not-true}
 use Rattle.std.proofs.lemmas.List.{get_or_default}
 use Rattle.ags_rows.specs.declared.code.Code.TheVariants.{Rule10a, Rule10b, Rule10c, Rule11c, Rule20}
 use Rattle.ags_rows.specs.declared.finding.Finding.{Finding}
@@ -17,7 +17,7 @@ use Rattle.ags_links.specs.Parents.{IsParentRow}
 use Rattle.ags_check.specs.RowRules.{IsBrokenLink, RepeatsKey, LacksParentRow, IsUnlistedFileSet, data_row_rules}
 use Rattle.ags_check.specs.Placing.{InSome}
 use Rattle.ags_check.proofs.EntryNotes.{entry_rules_in}
-use Rattle.ags_check.proofs.Listings.{not_true, true_not}
+use Rattle.ags_check.proofs.HeaderRules.{some_there}
 
 -- one row has one number
 same_row : (rows : List DataRow) (n : ℕ) (r s : DataRow) → At rows n r → At rows n s → r ≡ s
@@ -40,22 +40,19 @@ repeats_means entries file number first row keyed at is_first = (
       lt-ltb first number (omega (arith, le, rule.1.2)),
 )
 
-some_there : {X : Type 0} (o : Option X) → is_some o ≡ true → (x : X) × (o ≡ Some x)
-some_there None e = absurd (true≢false (sym e))
-some_there (Some x) e = (x, refl)
-
 pub parent_means : (entries : Entries) (file : List Contents) (number : ℕ) (row : DataRow) (has : Bool) → is_some (parent_of entries row.group) ≡ true → At (data_rows file) number row
     → IsTrue has ↔ ((m : ℕ) × RowsRelate (data_rows file) (IsParentRow entries) number m) → IsTrue (not has) ↔ LacksParentRow entries file row
 parent_means entries file number row has parented at means = (
   λ e. (
       let parent = some_there (parent_of entries row.group) parented in
-      (parent.0, parent.1, λ other there is. not_true has e (means.1 (there.0, (row, other, at, (there.1, there.2), is))))
+      (parent.0, parent.1, λ other there is. true≢false (sym (means.1 (there.0, (row, other, at, (there.1, there.2), is))) ∙ not-true has e))
       ),
   λ rule.
-      true_not has
+      ap not
+      (false_from_ne_true has
       (λ h.
       let p = means.0 h in
-      rule.2 p.1.1 (p.0, p.1.3.0, p.1.3.1) (subst (λ (r : DataRow). IsParentRow entries r p.1.1) (same_row (data_rows file) number p.1.0 row p.1.2 at) p.1.4)),
+      rule.2 p.1.1 (p.0, p.1.3.0, p.1.3.1) (subst (λ (r : DataRow). IsParentRow entries r p.1.1) (same_row (data_rows file) number p.1.0 row p.1.2 at) p.1.4))),
 )
 
 -- all that is noted of a row

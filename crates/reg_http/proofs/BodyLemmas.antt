@@ -1,6 +1,6 @@
 -- The body, from what came with the head and what was read.
-use Rattle.std.proofs.Common.{◌≡◌, ℕ, ◌+◌, ◌<◌, ◌≤◌, inl, inr, List, [], ◌∷◌, ◌++◌, length, take, Option, Some, None, refl, sym, ap, subst, ◌∙◌, arith, append_assoc, length-append, Ok, Err}
-use Rattle.std.proofs.lemmas.List.{take-append-le, append-nil, length-take-le, take_all}
+use Rattle.std.proofs.Common.{◌≡◌, ℕ, ◌+◌, ◌<◌, ◌≤◌, inl, inr, List, [], ◌++◌, length, take, Option, Some, None, sym, ap, ◌∙◌, arith, append_assoc, length-append, Ok, Err}
+use Rattle.std.proofs.lemmas.List.{take-append-le, append-nil, length-take, length-take-le, nil_from_length, take_all}
 use Rattle.std.proofs.Math.Seq.{take-append_seam}
 use Rattle.std.specs.Prelude.{IfSome, Vec}
 use Rattle.std.specs.declared.alloc.Global.{Global}
@@ -16,11 +16,6 @@ pub record HasRead (old new : Option (List ℕ)) (early : List ℕ) (n : ℕ) (f
   pub front_is : front ≡ take n early ++ more
   pub taken : Consumes old new more
 
--- no byte is the empty list
-no_bytes : (xs : List ℕ) → length xs ≡ 0 → xs ≡ []
-no_bytes [] e = refl
-no_bytes (x ∷ xs) e = absurd (omega arith)
-
 -- the whole of a body
 pub body_whole : (n : ℕ) (early more ys : List ℕ) → length (take n early ++ more) ≡ n
     → (n ≤ length (early ++ (more ++ ys))) × (take n early ++ more ≡ take n (early ++ (more ++ ys)))
@@ -33,22 +28,20 @@ body_whole n early more ys long = elim (cases_lt (length early) n) [
         ap (λ t. t ++ more) all ∙ sym (take-append_seam (early ++ more) ys) ∙ ap (λ k. take k ((early ++ more) ++ ys)) sum ∙ ap (take n) (sym regroup),
       )
   | inr fits ↦
-      let none : more ≡ [] = no_bytes more (omega (arith, length-append (take n early) more, length-take-le n early fits)) in (
+      let none : more ≡ [] = nil_from_length more (omega (arith, length-append (take n early) more, length-take-le n early fits)) in (
         omega (arith, length-append early (more ++ ys)),
         ap (λ t. take n early ++ t) none ∙ append-nil (take n early) ∙ sym (take-append-le n early (more ++ ys) fits),
       )
 ]
 
--- a body that was read whole
-pub ReadsBody-whole : (old new : Option (List ℕ)) (early : List ℕ) (n : ℕ) (body : Vec ℕ Global) → HasRead old new early n (take n body.items)
-    → length body.items ≡ n → IfSome old (λ left. ReadsBody (early ++ left) n (Ok body))
-ReadsBody-whole None new early n body read long = tt
-ReadsBody-whole (Some xs) None early n body read long = absurd read.taken
-ReadsBody-whole (Some xs) (Some ys) early n body read long =
-    let all : take n body.items ≡ body.items = take_all n body.items (omega arith) in
-    let is : body.items ≡ take n early ++ read.more = sym all ∙ read.front_is in
-    let whole = body_whole n early read.more ys (sym (ap length is) ∙ long) in
-    rw read.taken (whole.0, is ∙ whole.1)
+-- a front as long as the body is the body
+pub ReadsBody-all : (old new : Option (List ℕ)) (early : List ℕ) (n : ℕ) (body : Vec ℕ Global) → HasRead old new early n body.items → length body.items ≡ n
+    → IfSome old (λ left. ReadsBody (early ++ left) n (Ok body))
+ReadsBody-all None new early n body read long = tt
+ReadsBody-all (Some xs) None early n body read long = absurd read.taken
+ReadsBody-all (Some xs) (Some ys) early n body read long =
+    let whole = body_whole n early read.more ys (sym (ap length read.front_is) ∙ long) in
+    rw read.taken (whole.0, read.front_is ∙ whole.1)
 
 -- a body whose bytes ended early: no byte came, and the reader is at its end
 pub ReadsBody-short : (u v w : Option (List ℕ)) (early body bytes : List ℕ) (n : ℕ) → HasRead u v early n body → Consumes v w bytes → length bytes ≡ 0
@@ -57,20 +50,10 @@ ReadsBody-short None v w early body bytes n read last none under end = tt
 ReadsBody-short (Some xs) None w early body bytes n read last none under end = absurd read.taken
 ReadsBody-short (Some xs) (Some ys) None early body bytes n read last none under end = absurd last
 ReadsBody-short (Some xs) (Some ys) (Some zs) early body bytes n read last none under end =
-    let front = ap length read.front_is in
-    let parts = length-append (take n early) read.more in
-    let sum = length-append early xs in
+    let front = ap length read.front_is ∙ length-append (take n early) read.more in
     let left = ap length read.taken ∙ length-append read.more ys in
     let rest = ap length last ∙ length-append bytes zs in
-    let gone = ap length end in
-    elim (cases_lt (length early) n) [
-      | inl over ↦
-          let all = ap length (take_all n early (omega arith)) in
-          omega (arith, all, front, parts, sum, left, rest, none, gone)
-      | inr fits ↦
-          let all = length-take-le n early fits in
-          absurd (omega (arith, all, front, parts))
-    ]
+    omega (arith, length-take n early, length-append early xs, front, left, rest, none, ap length end)
 
 -- the front of the body, and the bytes of one read more
 pub HasRead-more : (u v w : Option (List ℕ)) (early before after bytes : List ℕ) (n : ℕ) → HasRead u v early n before → Consumes v w bytes → after ≡ before ++ bytes → HasRead u w early n after
@@ -79,9 +62,3 @@ HasRead-more u v w early before after bytes n read taken grown = record {
   front_is = grown ∙ ap (λ t. t ++ bytes) read.front_is ∙ append_assoc (take n early) read.more bytes;
   taken = Consumes-then u v w read.more bytes read.taken taken;
 }
-
--- a front as long as the body is the body
-pub ReadsBody-all : (old new : Option (List ℕ)) (early : List ℕ) (n : ℕ) (body : Vec ℕ Global) → HasRead old new early n body.items → length body.items ≡ n
-    → IfSome old (λ left. ReadsBody (early ++ left) n (Ok body))
-ReadsBody-all old new early n body read long =
-    ReadsBody-whole old new early n body (subst (λ (t : List ℕ). HasRead old new early n t) (sym (take_all n body.items (omega arith))) read) long

@@ -17,14 +17,6 @@ values-append name xs ys =
     let value : List ℕ × List ℕ → List ℕ = λ (n, v). v in
     ap (map value) (filter-append test xs ys) ∙ map-append value (filter test xs) (filter test ys)
 
--- a field of the name alone
-one-same : (name n v : List ℕ) → str_eq_ignore_ascii_case n name ≡ true → values_of name ((n, v) ∷ []) ≡ v ∷ []
-one-same name n v same = rw same refl
-
--- a field of another name alone
-one-other : (name n v : List ℕ) → str_eq_ignore_ascii_case n name ≡ false → values_of name ((n, v) ∷ []) ≡ []
-one-other name n v other = rw other refl
-
 -- one field more
 values-next : (buf name : List ℕ) (headers : List HeaderSpan) (i : ℕ) (d : HeaderSpan) → i < length headers
     → values_of name (map (header_bytes buf) (take (i + 1) headers))
@@ -42,10 +34,9 @@ pub AreValues-same : (buf name n v : List ℕ) (headers : List HeaderSpan) (i : 
     → AreValues (values_of name (map (header_bytes buf) (take i headers)) ++ v ∷ []) found
     → AreValues (values_of name (map (header_bytes buf) (take (i + 1) headers))) found
 AreValues-same buf name n v headers i d found inside named valued same are =
-    let step = values-next buf name headers i d inside in
-    let last = one-same name (span_bytes buf (get_or headers i d).name) (span_bytes buf (get_or headers i d).value) (rw (← named) same) in
-    let P : List (List ℕ) → Type 0 = λ t. AreValues t found in
-    subst P (sym (step ∙ ap (λ t. values_of name (map (header_bytes buf) (take i headers)) ++ t) (last ∙ ap (λ t. t ∷ []) (sym valued)))) are
+    let last : values_of name (header_bytes buf (get_or headers i d) ∷ []) ≡ v ∷ [] = rw (← named, ← valued, same) refl in
+    subst (λ (t : List (List ℕ)). AreValues t found)
+    (sym (values-next buf name headers i d inside ∙ ap (λ t. values_of name (map (header_bytes buf) (take i headers)) ++ t) last)) are
 
 -- a field of another name
 pub AreValues-other : (buf name n : List ℕ) (headers : List HeaderSpan) (i : ℕ) (d : HeaderSpan) (found : Values) → i < length headers
@@ -53,7 +44,6 @@ pub AreValues-other : (buf name n : List ℕ) (headers : List HeaderSpan) (i : �
     → AreValues (values_of name (map (header_bytes buf) (take i headers))) found
     → AreValues (values_of name (map (header_bytes buf) (take (i + 1) headers))) found
 AreValues-other buf name n headers i d found inside named other are =
-    let step = values-next buf name headers i d inside in
-    let last = one-other name (span_bytes buf (get_or headers i d).name) (span_bytes buf (get_or headers i d).value) (rw (← named) other) in
-    let P : List (List ℕ) → Type 0 = λ t. AreValues t found in
-    subst P (sym (step ∙ ap (λ t. values_of name (map (header_bytes buf) (take i headers)) ++ t) last ∙ append-nil _)) are
+    let last : values_of name (header_bytes buf (get_or headers i d) ∷ []) ≡ [] = rw (← named, other) refl in
+    subst (λ (t : List (List ℕ)). AreValues t found)
+    (sym (values-next buf name headers i d inside ∙ ap (λ t. values_of name (map (header_bytes buf) (take i headers)) ++ t) last ∙ append-nil _)) are

@@ -1,12 +1,13 @@
 -- The pieces of a text between its commas.
-use Rattle.std.proofs.Common.{◌≡◌, ◌≢◌, ℕ, zero, suc, get_or, ◌+◌, ◌<◌, ◌==◌, List, [], ◌∷◌, length, take, drop, sym, refl, ap, ◌∙◌, subst, ⊎_elim, arith}
-use Rattle.std.specs.Prelude.{◌&&◌, Bool, true, false}
+use Rattle.std.proofs.Common.{◌≡◌, ◌≢◌, ℕ, suc, get_or, ◌+◌, ◌<◌, ◌==◌, List, [], ◌∷◌, length, take, drop, sym, refl, ap, ◌∙◌, subst, ⊎_elim, arith}
+use Rattle.std.specs.Prelude.{false}
 use Rattle.std.specs.Borrow.{Bor}
 use Rattle.std.specs.List.{list_all}
 use Rattle.ags_text.specs.Names.{is_group_name}
 use Rattle.reg_desk.specs.Asked.{names_in}
 use Rattle.std.specs.List.{position_or_len, before_first, after_first}
 use Rattle.std.proofs.lemmas.Bool.{cond-true, cond-false, cases_eq, eq-eqb, ne_eqb}
+use Rattle.std.proofs.lemmas.List.Recursion.{and_fails_at}
 use Rattle.form_urlencoded.specs.Form.{split_once, onto_first, split}
 use Rattle.form_urlencoded.proofs.FormLemmas.{split_once_before_same, split_once_after_same, split_once_before_other, split_once_after_other}
 
@@ -49,8 +50,7 @@ pub split_whole : (s : ℕ) (bs : List ℕ) → position_or_len (λ x. x == s) b
 split_whole s [] none = split-nil s
 split_whole s (b ∷ bs) none = ⊎_elim
     (λ same.
-    let P : ℕ → Type 0 = λ x. position_or_len (λ y. y == s) (x ∷ bs) ≡ suc (length bs) in
-    let at = subst P same none in
+    let at = subst (λ (x : ℕ). position_or_len (λ y. y == s) (x ∷ bs) ≡ suc (length bs)) same none in
     absurd (omega (arith, position_same s bs, at)))
     (λ other. split_other s b bs other ∙ ap (onto_first b) (split_whole s bs (omega (arith, position_other s b bs other, none))))
     (cases_eq b s)
@@ -59,17 +59,10 @@ split_whole s (b ∷ bs) none = ⊎_elim
 pub split_here : (s : ℕ) (bs : List ℕ) (i : ℕ) → position_or_len (λ x. x == s) bs ≡ i → i < length bs
     → split s bs ≡ take i bs ∷ split s (drop (i + 1) bs)
 split_here s bs i is inside =
-    let P : ℕ → Type 0 = λ n. split s bs ≡ take n bs ∷ split s (drop (n + 1) bs) in
-    subst P is (split_at s bs (omega arith))
+    subst (λ (n : ℕ). split s bs ≡ take n bs ∷ split s (drop (n + 1) bs)) is (split_at s bs (omega arith))
 
 -- one that is no name of a group
 pub group_fails : (gs : List (Bor (List ℕ))) (i : ℕ) (d : Bor (List ℕ)) → i < length gs → is_group_name (get_or gs i d).now ≡ false
     → list_all is_group_name (names_in gs) ≡ false
-group_fails [] i d inside fails = absurd (omega arith)
-group_fails (g ∷ gs) zero d inside fails = rw fails refl
-group_fails (g ∷ gs) (suc i) d inside fails =
-    ap (λ v. is_group_name g.now && v) (group_fails gs i d (omega arith) fails) ∙ and_false (is_group_name g.now)
-  where
-    and_false : (v : Bool) → (v && false) ≡ false
-    and_false true = refl
-    and_false false = refl
+group_fails gs i d inside fails =
+    and_fails_at (λ (xs : List (Bor (List ℕ))). list_all is_group_name (names_in xs)) (λ g. is_group_name g.now) refl (λ x xs. refl) gs i d inside fails

@@ -1,37 +1,38 @@
 -- When the bytes of a connection have a head within the limits, and when they have none.
-use Rattle.std.proofs.Common.{◌≡◌, ℕ, ◌≤◌, List, [], ◌∷◌, ◌++◌, length, take, drop, map, Option, Some, None, sym, ap, ◌∙◌, arith, length-append}
+use Rattle.std.proofs.Common.{◌≡◌, ℕ, ◌≤◌, List, [], ◌∷◌, ◌++◌, length, take, drop, Option, Some, None, sym, ap, ◌∙◌, arith, length-append}
 use Rattle.std.proofs.lemmas.List.{take-append-le, take-append-drop, length-take-le, length-map}
 use Rattle.std.proofs.Math.Seq.{take-append_seam}
 use Rattle.std.specs.Io.KnownBytes.{Consumes}
-use Rattle.httparse.specs.Grammar.{RequestHead, print_request, print_blank, print_version, print_end, print_section}
-use Rattle.httparse.specs.Spans.{IsRequestAt, IsRequestWithin, header_bytes, name_and_value}
+use Rattle.httparse.specs.Grammar.{RequestHead, ReadsRequest, print_request, print_blank, print_version, print_end, print_section}
+use Rattle.httparse.specs.Spans.{IsRequestAt, IsRequestWithin}
 use Rattle.httparse.specs.declared.spans.HeaderSpan.{HeaderSpan}
 use Rattle.httparse.specs.declared.spans.RequestSpans.{RequestSpans}
 use Rattle.httparse.proofs.GrammarLemmas.{print_request-append}
-use Rattle.reg_http.specs.Heads.{HasNoFewRequest, HasNoHead, HoldsHead, ReadsHead}
+use Rattle.reg_http.specs.Heads.{HasNoFewRequest, HasNoHead, HoldsHead, IsHead, ReadsHead}
 use Rattle.std.specs.Prelude.{IfSome}
 use Rattle.reg_http.specs.declared.request.head.HeadRead.TheVariants.{Bad, Whole}
 
--- no bytes are no head
-pub none_at_first : HasNoFewRequest []
-none_at_first h rest reads =
+-- a request has two bytes, or more
+two_bytes : (bytes : List ℕ) (h : RequestHead) (rest : List ℕ) → ReadsRequest bytes h rest → 2 ≤ length bytes
+two_bytes bytes h rest reads =
     let after = print_version h.minor ++ (print_end h.line_end ++ (print_section h.fields h.last ++ rest)) in
-    let none : 0 ≡ length (print_blank h.blank ++ (h.method ++ 32 ∷ (h.target ++ 32 ∷ after))) =
+    let all : length bytes ≡ length (print_blank h.blank ++ (h.method ++ 32 ∷ (h.target ++ 32 ∷ after))) =
     ap length (reads.1 ∙ print_request-append h rest) in
     let some = length-append (print_blank h.blank) (h.method ++ 32 ∷ (h.target ++ 32 ∷ after)) in
     let more = length-append h.method (32 ∷ (h.target ++ 32 ∷ after)) in
-    absurd (omega arith)
+    let last = length-append h.target (32 ∷ after) in
+    omega arith
+
+-- no bytes are no head
+pub none_at_first : HasNoFewRequest []
+none_at_first h rest reads = absurd (omega (arith, two_bytes [] h rest reads))
+
+pub none_of_nothing : (bytes : List ℕ) (h : RequestHead) (rest : List ℕ) → bytes ≡ [] → IsHead bytes h rest → ⊥
+none_of_nothing bytes h rest none head = omega (arith, two_bytes bytes h rest head.reads, ap length none)
 
 -- nor is one byte
 pub none_at_one : (b : ℕ) → HasNoHead (b ∷ [])
-none_at_one b h rest head =
-    let after = print_version h.minor ++ (print_end h.line_end ++ (print_section h.fields h.last ++ rest)) in
-    let one : 1 ≡ length (print_blank h.blank ++ (h.method ++ 32 ∷ (h.target ++ 32 ∷ after))) =
-    ap length (head.reads.1 ∙ print_request-append h rest) in
-    let some = length-append (print_blank h.blank) (h.method ++ 32 ∷ (h.target ++ 32 ∷ after)) in
-    let more = length-append h.method (32 ∷ (h.target ++ 32 ∷ after)) in
-    let last = length-append h.target (32 ∷ after) in
-    absurd (omega arith)
+none_at_one b h rest head = absurd (omega (arith, two_bytes (b ∷ []) h rest head.reads))
 
 -- what fits in the front is in the front
 cut : (front rest p q : List ℕ) → front ++ rest ≡ p ++ q → length p ≤ length front → front ≡ p ++ drop (length p) front
@@ -55,9 +56,7 @@ pub few_fields : (buf : List ℕ) (headers : List HeaderSpan) (spans : RequestSp
     → IsRequestAt buf headers spans h → IsRequestWithin buf headers spans → length headers ≡ 32 → length h.fields ≤ 32
 few_fields buf headers spans h at within room =
     let fits = within.section.count_fits in
-    let printed = ap length at.fields in
-    let a : length (map (header_bytes buf) (take spans.headers headers)) ≡ length (take spans.headers headers) = simp length-map in
-    let b : length (map name_and_value h.fields) ≡ length h.fields = simp length-map in
+    let printed = simp length-map at (ap length at.fields) in
     let n = length-take-le spans.headers headers fits in
     omega arith
 

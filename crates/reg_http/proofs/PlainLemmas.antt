@@ -10,7 +10,7 @@ use Rattle.ags_text.specs.Bytes.{zero_digit}
 use Rattle.ags_text.specs.Names.{is_within}
 use Rattle.ags_rows.specs.Codes.{code_text}
 use Rattle.ags_rows.specs.declared.code.Code.{Code}
-use Rattle.ags_rows.specs.declared.code.Code.TheVariants.{Rule1, Rule2, Rule2a, Rule2b, Rule3, Rule4, Rule5, Rule6, Rule7, Rule8, Rule9, Rule10a, Rule10b, Rule10c, Rule11a, Rule11b, Rule11c, Rule13, Rule14, Rule15, Rule16, Rule17, Rule18, Rule19, Rule19a, Rule19b, Rule20, P1, P2}
+use Rattle.ags_rows.specs.declared.code.Code.TheVariants.{Rule1}
 use Rattle.reg_policy.specs.Names.{hyphen, is_name, is_name_byte}
 use Rattle.reg_policy.specs.Days.{Writes, day_text, two_digit_text}
 use Rattle.reg_http.specs.Bodies.{printed_byte}
@@ -51,8 +51,7 @@ text_plain : (year month day : ℕ) → year < 10000 → month < 100 → day < 1
 text_plain year month day small_year small_month small_day =
     let last = dash_plain (two_digit_text day) (digits_plain day [] small_day refl) in
     let later = dash_plain (two_digit_text month ++ hyphen ∷ two_digit_text day) (digits_plain month (hyphen ∷ two_digit_text day) small_month last) in
-    let short : year / 100 < 100 = omega arith in
-    digits_plain (year / 100) (two_digit_text (year % 100) ++ hyphen ∷ two_digit_text month ++ hyphen ∷ two_digit_text day) short
+    digits_plain (year / 100) (two_digit_text (year % 100) ++ hyphen ∷ two_digit_text month ++ hyphen ∷ two_digit_text day) (omega arith)
     (digits_plain (year % 100) (hyphen ∷ two_digit_text month ++ hyphen ∷ two_digit_text day) (omega arith) later)
 
 -- the text of a day
@@ -66,42 +65,11 @@ day_plain text n (year, month, day, (small_year, (date, number)), is) =
 pub code_plain : (code : Code) → escape (code_text code) ≡ code_text code
 unfolding escape_byte
 code_plain Rule1 = refl
-code_plain Rule2 = refl
-code_plain Rule2a = refl
-code_plain Rule2b = refl
-code_plain Rule3 = refl
-code_plain Rule4 = refl
-code_plain Rule5 = refl
-code_plain Rule6 = refl
-code_plain Rule7 = refl
-code_plain Rule8 = refl
-code_plain Rule9 = refl
-code_plain Rule10a = refl
-code_plain Rule10b = refl
-code_plain Rule10c = refl
-code_plain Rule11a = refl
-code_plain Rule11b = refl
-code_plain Rule11c = refl
-code_plain Rule13 = refl
-code_plain Rule14 = refl
-code_plain Rule15 = refl
-code_plain Rule16 = refl
-code_plain Rule17 = refl
-code_plain Rule18 = refl
-code_plain Rule19 = refl
-code_plain Rule19a = refl
-code_plain Rule19b = refl
-code_plain Rule20 = refl
-code_plain P1 = refl
-code_plain P2 = refl
-
--- what shows is no control
-shown_from : (b : ℕ) → 32 ≤ printed_byte b
-shown_from b = grind (arith, nat_tests)
+code_plain code = refl
 
 -- a byte that shows, and is not escaped
 pub shown_plain : (b s : ℕ) → s ≡ printed_byte b → (s ≡ 34 → ⊥) → (s ≡ 92 → ⊥) → s ∷ [] ≡ escape_byte (printed_byte b)
-shown_plain b s is no_quote no_slash = sym (ap escape_byte (sym is) ∙ escape_byte_plain s no_quote no_slash (subst (λ k. 32 ≤ k) (sym is) (shown_from b)))
+shown_plain b s is no_quote no_slash = sym (ap escape_byte (sym is) ∙ escape_byte_plain s no_quote no_slash (subst (λ k. 32 ≤ k) (sym is) (grind (arith, nat_tests))))
 
 -- a quote, and a backslash
 pub shown_quote : (b s : ℕ) → s ≡ printed_byte b → s ≡ 34 → 92 ∷ 34 ∷ [] ≡ escape_byte (printed_byte b)

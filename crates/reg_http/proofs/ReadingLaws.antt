@@ -1,5 +1,7 @@
 -- The bytes of a connection are read as one thing.
-use Rattle.std.proofs.Common.{◌≡◌, ℕ, ℤ, List, [], length, take, Result, Ok, Err, refl, sym, ap, ◌∙◌, arith}
+use Rattle.std.proofs.Common.{◌≡◌, ℕ, ℤ, List, length, take, cond, Result, Ok, Err, refl, sym, ap, ◌∙◌, arith}
+use Rattle.std.specs.Prelude.{ltb}
+use Rattle.std.proofs.lemmas.Bool.{cond-true, cond-false, lt-ltb, le-ltb}
 use Rattle.httparse.specs.Grammar.{RequestHead}
 use Rattle.httparse.proofs.GrammarLemmas.{request_unique}
 use Rattle.reg_policy.specs.declared.callers.Credential.{Credential}
@@ -8,66 +10,43 @@ use Rattle.reg_http.specs.Heads.{IsHead}
 use Rattle.reg_http.specs.HeadParts.{head_parts}
 use Rattle.reg_http.specs.Reading.{HasOneReading, Heard, ReadAs, bad_head, refusal, refused, request, short_body, silent, whole}
 use Rattle.reg_http.specs.declared.refusal.Refusal.{Refusal}
-use Rattle.reg_http.proofs.HeadLemmas.{none_at_first}
+use Rattle.reg_http.specs.declared.refusal.Refusal.TheVariants.{ShortBody}
+use Rattle.reg_http.proofs.HeadLemmas.{none_of_nothing}
 
--- nothing is no head
-none_of_nothing : (bytes : List ℕ) (h : RequestHead) (rest : List ℕ) → bytes ≡ [] → IsHead bytes h rest → ⊥
-none_of_nothing bytes h rest none head =
-    let many = none_at_first h rest (rw none at head.reads) in
-    let few = head.few in
-    omega arith
+-- what a head and the bytes after it are read as
+abbrev heard : ℤ → Result Asking Refusal → List ℕ → Heard
+heard day (Err r) rest = refusal r
+heard day (Ok a) rest = cond (ltb (length rest) a.length) (refusal ShortBody) (request (asked_with a (take a.length rest) day))
 
 module _ (callers : List Credential) (day : ℤ) (bytes : List ℕ) where
-  -- what two heads of the same bytes ask is the same
-  same_ask : (h k : RequestHead) (rest more : List ℕ) (a b : Result Asking Refusal) → IsHead bytes h rest → IsHead bytes k more
-      → ask_of callers day (head_parts h) ≡ a → ask_of callers day (head_parts k) ≡ b → (a ≡ b) × (rest ≡ more)
-  same_ask h k rest more a b x y p q =
+  -- two heads of the same bytes are read as the same
+  same_heard : (h k : RequestHead) (rest more : List ℕ) (a : Result Asking Refusal) → IsHead bytes h rest → IsHead bytes k more
+      → ask_of callers day (head_parts k) ≡ a → heard day (ask_of callers day (head_parts h)) rest ≡ heard day a more
+  same_heard h k rest more a x y q =
       let same = request_unique bytes h k rest more x.reads y.reads in
-      (sym p ∙ ap (λ n. ask_of callers day (head_parts n)) same.0 ∙ q, same.1)
+      ap (λ (n : RequestHead). heard day (ask_of callers day (head_parts n)) rest) same.0
+      ∙ ap (λ (t : List ℕ). heard day (ask_of callers day (head_parts k)) t) same.1 ∙ ap (λ (b : Result Asking Refusal). heard day b more) q
+
+  -- bytes with a head are read as the head says
+  by_head : (h : RequestHead) (rest : List ℕ) (b : Heard) → IsHead bytes h rest → ReadAs callers day bytes b → heard day (ask_of callers day (head_parts h)) rest ≡ b
+  by_head h rest b x (silent q) = absurd (none_of_nothing bytes h rest q x)
+  by_head h rest b x (bad_head q n) = absurd (n h rest x)
+  by_head h rest b x (refused k more r y q) = same_heard h k rest more (Err r) x y q
+  by_head h rest b x (short_body k more c y q l) = same_heard h k rest more (Ok c) x y q ∙ cond-true _ _ _ (lt-ltb (length more) c.length l)
+  by_head h rest b x (whole k more c y q l) = same_heard h k rest more (Ok c) x y q ∙ cond-false _ _ _ (le-ltb (length more) c.length l)
 
   -- case by case
   one_reading_of : (a b : Heard) → ReadAs callers day bytes a → ReadAs callers day bytes b → a ≡ b
   one_reading_of a b (silent p) (silent q) = refl
   one_reading_of a b (silent p) (bad_head q n) = absurd (omega (arith, ap length p))
-  one_reading_of a b (silent p) (refused k more r y q) = absurd (none_of_nothing bytes k more p y)
-  one_reading_of a b (silent p) (short_body k more c y q l) = absurd (none_of_nothing bytes k more p y)
-  one_reading_of a b (silent p) (whole k more c y q l) = absurd (none_of_nothing bytes k more p y)
   one_reading_of a b (bad_head p n) (silent q) = absurd (omega (arith, ap length q))
   one_reading_of a b (bad_head p n) (bad_head q m) = refl
-  one_reading_of a b (bad_head p n) (refused k more r y q) = absurd (n k more y)
-  one_reading_of a b (bad_head p n) (short_body k more c y q l) = absurd (n k more y)
-  one_reading_of a b (bad_head p n) (whole k more c y q l) = absurd (n k more y)
-  one_reading_of a b (refused h rest r x p) (silent q) = absurd (none_of_nothing bytes h rest q x)
-  one_reading_of a b (refused h rest r x p) (bad_head q n) = absurd (n h rest x)
-  one_reading_of a b (refused h rest r x p) (refused k more s y q) =
-      let same = (same_ask h k rest more (Err r) (Err s) x y p q).0 in
-      let refusals : r ≡ s = cc in
-      ap refusal refusals
-  one_reading_of a b (refused h rest r x p) (short_body k more c y q l) =
-      let same = (same_ask h k rest more (Err r) (Ok c) x y p q).0 in cc
-  one_reading_of a b (refused h rest r x p) (whole k more c y q l) =
-      let same = (same_ask h k rest more (Err r) (Ok c) x y p q).0 in cc
-  one_reading_of a b (short_body h rest c x p l) (silent q) = absurd (none_of_nothing bytes h rest q x)
-  one_reading_of a b (short_body h rest c x p l) (bad_head q n) = absurd (n h rest x)
-  one_reading_of a b (short_body h rest c x p l) (refused k more s y q) =
-      let same = (same_ask h k rest more (Ok c) (Err s) x y p q).0 in cc
-  one_reading_of a b (short_body h rest c x p l) (short_body k more d y q m) = refl
-  one_reading_of a b (short_body h rest c x p l) (whole k more d y q m) =
-      let same = same_ask h k rest more (Ok c) (Ok d) x y p q in
-      let askings : c ≡ d = (let e = same.0 in cc) in
-      absurd (omega (arith, ap (λ (n : Asking). n.length) askings, ap length same.1))
-  one_reading_of a b (whole h rest c x p l) (silent q) = absurd (none_of_nothing bytes h rest q x)
-  one_reading_of a b (whole h rest c x p l) (bad_head q n) = absurd (n h rest x)
-  one_reading_of a b (whole h rest c x p l) (refused k more s y q) =
-      let same = (same_ask h k rest more (Ok c) (Err s) x y p q).0 in cc
-  one_reading_of a b (whole h rest c x p l) (short_body k more d y q m) =
-      let same = same_ask h k rest more (Ok c) (Ok d) x y p q in
-      let askings : c ≡ d = (let e = same.0 in cc) in
-      absurd (omega (arith, ap (λ (n : Asking). n.length) askings, ap length same.1))
-  one_reading_of a b (whole h rest c x p l) (whole k more d y q m) =
-      let same = same_ask h k rest more (Ok c) (Ok d) x y p q in
-      let askings : c ≡ d = (let e = same.0 in cc) in
-      ap request (ap (λ (n : Asking). asked_with n (take n.length rest) day) askings ∙ ap (λ t. asked_with d (take d.length t) day) same.1)
+  one_reading_of a b (refused h rest r x p) y = sym (by_head h rest _ x (refused h rest r x p)) ∙ by_head h rest b x y
+  one_reading_of a b (short_body h rest c x p l) y = sym (by_head h rest _ x (short_body h rest c x p l)) ∙ by_head h rest b x y
+  one_reading_of a b (whole h rest c x p l) y = sym (by_head h rest _ x (whole h rest c x p l)) ∙ by_head h rest b x y
+  one_reading_of a b y (refused h rest r x p) = sym (by_head h rest _ x y) ∙ by_head h rest _ x (refused h rest r x p)
+  one_reading_of a b y (short_body h rest c x p l) = sym (by_head h rest _ x y) ∙ by_head h rest _ x (short_body h rest c x p l)
+  one_reading_of a b y (whole h rest c x p l) = sym (by_head h rest _ x y) ∙ by_head h rest _ x (whole h rest c x p l)
 
 -- the law
 pub one_reading : HasOneReading

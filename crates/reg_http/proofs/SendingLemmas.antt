@@ -141,15 +141,13 @@ IsListingFront ls out = (ds : List Data) × AllZip IsListedData ls ds × (out �
 -- as many have data as there are
 all_more : (ls : List Listed) (ds : List Data) (l : Listed) (d : Data) → AllZip IsListedData ls ds → IsListedData l d → AllZip IsListedData (ls ++ l ∷ []) (ds ++ d ∷ [])
 all_more [] [] l d all is = (is, tt)
-all_more [] (e ∷ ds) l d all is = absurd all
-all_more (k ∷ ls) [] l d all is = absurd all
 all_more (k ∷ ls) (e ∷ ds) l d all is = (all.0, all_more ls ds l d all.1 is)
+all_more ls ds l d all is = absurd all
 
 all_long : (ls : List Listed) (ds : List Data) → AllZip IsListedData ls ds → length ds ≡ length ls
 all_long [] [] all = refl
-all_long [] (e ∷ ds) all = absurd all
-all_long (k ∷ ls) [] all = absurd all
 all_long (k ∷ ls) (e ∷ ds) all = ap suc (all_long ls ds all.1)
+all_long ls ds all = absurd all
 
 -- one deposit more is written
 pub deposits_more : (ls : List Listed) (place : ℕ) (l : Listed) (old mid new : List ℕ) → place < length ls → l ≡ get_or ls place l → IsListingFront (take place ls) old → mid ≡ old ++ comma_if (nat_lt 0 place)

@@ -1,12 +1,12 @@
 -- How a connection goes, from how its steps went.
-use Rattle.std.proofs.Common.{◌≡◌, ℕ, ℤ, true, false, ◌+◌, ◌<◌, ◌≤◌, ◌⊎◌, inl, inr, List, [], ◌∷◌, ◌++◌, length, take, drop, Option, Some, None, Result, Ok, Err, refl, sym, ap, ◌∙◌, arith, length-append, subst}
+use Rattle.std.proofs.Common.{◌≡◌, ℕ, ℤ, false, ◌+◌, ◌<◌, ◌≤◌, ◌⊎◌, inl, inr, List, [], ◌∷◌, ◌++◌, length, take, drop, Option, Some, None, Result, Ok, Err, refl, sym, ap, ◌∙◌, arith, length-append, subst}
 use Rattle.std.specs.Prelude.{IfSome, Vec, ⊤}
 use Rattle.std.specs.declared.alloc.Global.{Global}
 use Rattle.std.specs.Io.KnownBytes.{Appends, Consumes}
 use Rattle.std.proofs.lemmas.List.{append-nil, length-take-le, take_all}
-use Rattle.std.proofs.lemmas.Bool.{cases_Bool}
-use Rattle.httparse.specs.Grammar.{RequestHead, print_request, ReadsRequest}
-use Rattle.reg_http.proofs.HeadLemmas.{none_at_first, none_at_one}
+use Rattle.std.proofs.lemmas.Option.{IfSome_then}
+use Rattle.httparse.specs.Grammar.{RequestHead, print_request}
+use Rattle.reg_http.proofs.HeadLemmas.{none_of_nothing, none_at_one}
 use Rattle.httparse.proofs.GrammarLemmas.{ReadsRequest-append, request_unique}
 use Rattle.httparse.specs.declared.spans.HeaderSpan.{HeaderSpan}
 use Rattle.httparse.specs.declared.spans.RequestSpans.{RequestSpans}
@@ -18,13 +18,12 @@ use Rattle.reg_desk.specs.Asked.{Asked}
 use Rattle.reg_http.specs.Heads.{HasNoHead, HoldsHead, IsHead, longest_head}
 use Rattle.reg_http.specs.HeadParts.{HeadParts, head_parts}
 use Rattle.reg_http.specs.Rendering.{IsRendered, answer_status, rendered, status_of}
-use Rattle.reg_http.specs.Reading.{ReadAs, refusal}
 use Rattle.reg_http.specs.Serving.{Exchange, ServesAnswer, ServesAsked, ServesOne, ServesRequest, WaitsFor, Written, body_reads, is_read}
 use Rattle.reg_http.specs.Views.{ReadsBody}
 use Rattle.reg_http.specs.Reading as reading
 use Rattle.reg_http.specs.Serving as serving
 use Rattle.reg_http.specs.declared.refusal.Refusal.{Refusal}
-use Rattle.reg_http.specs.declared.refusal.Refusal.TheVariants.{BadHead, NoRoute, Method, NoCaller, LengthRequired, BadLength, TooLarge, BadParameter, OutOfMemory, ShortBody}
+use Rattle.reg_http.specs.declared.refusal.Refusal.TheVariants.{BadHead, OutOfMemory, ShortBody}
 use Rattle.reg_desk.specs.declared.answer.Answer.{Answer}
 use Rattle.reg_http.specs.declared.serve.Served.{Served}
 use Rattle.reg_http.specs.declared.serve.IoFault.{IoFault}
@@ -36,39 +35,29 @@ Appends-none : (u : Option (List ℕ)) → Appends u u []
 Appends-none None = tt
 Appends-none (Some xs) = sym (append-nil xs)
 
--- the one refusal when out of memory
-memory_is : (r : Refusal) → is_out_of_memory r ≡ true → OutOfMemory ≡ r
-memory_is BadHead e = cc
-memory_is NoRoute e = cc
-memory_is Method e = cc
-memory_is NoCaller e = cc
-memory_is LengthRequired e = cc
-memory_is BadLength e = cc
-memory_is TooLarge e = cc
-memory_is BadParameter e = cc
-memory_is ShortBody e = cc
-memory_is OutOfMemory e = refl
+-- what holds of any value holds of the one that there is
+always : {A : Type 0} {P : A → Type 0} (o : Option A) → ((a : A) → P a) → IfSome o P
+always None all = tt
+always (Some a) all = all a
 
 module _ {D : Type 0} (answers : D → Asked → Answer → D → Type 0) (callers : List Credential) (day : ℤ) where
+  -- one of the ways of a connection, and its text written
+  by_way : (bytes : List ℕ) (d e : D) (u w : Option (List ℕ)) (text : List ℕ) (status : ℕ) (result : Result Served IoFault)
+      → Exchange answers callers day bytes d e text status → Written u w text status result → ServesOne answers callers day bytes d e u w result
+  by_way bytes d e u w text status (Err fault.Read) way written = tt
+  by_way bytes d e u w text status result way written = (text, status, way, written)
+
   -- nothing came
   pub serve_silent : (old : Option (List ℕ)) (d : D) (w : Option (List ℕ)) → IfSome old (λ bytes. bytes ≡ [])
       → IfSome old (λ bytes. ServesOne answers callers day bytes d d w w (Ok (record { status = 0 })))
-  serve_silent None d w none = tt
-  serve_silent (Some bytes) d w none = ([], 0, serving.silent (reading.silent none), (Appends-none w, refl))
-
-  -- a refusal was written
-  pub serve_refused : (bytes : List ℕ) (d : D) (u w : Option (List ℕ)) (r : Refusal) (result : Result Served IoFault) → ReadAs callers day bytes (refusal r)
-      → Written u w (rendered r) (status_of r) result → ServesOne answers callers day bytes d d u w result
-  serve_refused bytes d u w r (Ok s) why written = (rendered r, (status_of r), serving.refused r why, written)
-  serve_refused bytes d u w r (Err fault.Read) why written = tt
-  serve_refused bytes d u w r (Err fault.Write) why written = (rendered r, (status_of r), serving.refused r why, written)
+  serve_silent old d w none = IfSome_then old none (λ bytes is. ([], 0, serving.silent (reading.silent is), (Appends-none w, refl)))
 
   -- bytes without a head
   pub serve_bad : (old : Option (List ℕ)) (d : D) (u w : Option (List ℕ)) (result : Result Served IoFault)
       → IfSome old (λ bytes. (0 < length bytes) × HasNoHead bytes) → Written u w (rendered BadHead) (status_of BadHead) result
       → IfSome old (λ bytes. ServesOne answers callers day bytes d d u w result)
-  serve_bad None d u w result why written = tt
-  serve_bad (Some bytes) d u w result why written = serve_refused bytes d u w BadHead result (reading.bad_head why.0 why.1) written
+  serve_bad old d u w result why written = IfSome_then old why
+      (λ bytes bad. by_way bytes d d u w (rendered BadHead) (status_of BadHead) result (serving.refused BadHead (reading.bad_head bad.0 bad.1)) written)
 
 -- a head in the buffer is a head of the connection, whose rest is what came with it and what is left
 pub head_of : (bytes left : List ℕ) (buf : List ℕ) (headers : List HeaderSpan) (spans : RequestSpans) (filled : ℕ)
@@ -84,30 +73,23 @@ head_of bytes left buf headers spans filled held small split =
     }
 
 module _ {D : Type 0} (answers : D → Asked → Answer → D → Type 0) (callers : List Credential) (day : ℤ) where
-  -- a refusal at a head, or out of memory
-  at_head : (bytes : List ℕ) (d : D) (u w : Option (List ℕ)) (r : Refusal) (result : Result Served IoFault) (h : RequestHead) (rest : List ℕ)
-      → IsHead bytes h rest → (is_out_of_memory r ≡ false → ask_of callers day (head_parts h) ≡ Err r) → Written u w (rendered r) (status_of r) result
-      → (is_out_of_memory r ≡ true) ⊎ (is_out_of_memory r ≡ false) → ServesOne answers callers day bytes d d u w result
-  at_head bytes d u w r (Err fault.Read) h rest head agrees written memory = tt
-  at_head bytes d u w r (Ok s) h rest head agrees written (inl memory) =
-      let P : Refusal → Type 0 = λ x. Exchange answers callers day bytes d d (rendered x) (status_of x) in
-      (rendered r, status_of r, subst P (memory_is r memory) (serving.no_memory h rest head), written)
-  at_head bytes d u w r (Ok s) h rest head agrees written (inr other) =
-      (rendered r, status_of r, serving.refused r (reading.refused h rest r head (agrees other)), written)
-  at_head bytes d u w r (Err fault.Write) h rest head agrees written (inl memory) =
-      let P : Refusal → Type 0 = λ x. Exchange answers callers day bytes d d (rendered x) (status_of x) in
-      (rendered r, status_of r, subst P (memory_is r memory) (serving.no_memory h rest head), written)
-  at_head bytes d u w r (Err fault.Write) h rest head agrees written (inr other) =
-      (rendered r, status_of r, serving.refused r (reading.refused h rest r head (agrees other)), written)
+  -- a refusal of what was read of a head, or out of memory
+  at_head : (parts : HeadParts) (bytes rest : List ℕ) (h : RequestHead) (d : D) (u w : Option (List ℕ)) (r : Refusal) (result : Result Served IoFault)
+      → (is_out_of_memory r ≡ false → ask_of callers day parts ≡ Err r) → Written u w (rendered r) (status_of r) result
+      → IsHead bytes h rest → parts ≡ head_parts h → ServesOne answers callers day bytes d d u w result
+  at_head parts bytes rest h d u w r result agrees written head same =
+      by_way answers callers day bytes d d u w (rendered r) (status_of r) result (way r agrees) written
+    where
+      way : (x : Refusal) → (is_out_of_memory x ≡ false → ask_of callers day parts ≡ Err x) → Exchange answers callers day bytes d d (rendered x) (status_of x)
+      way OutOfMemory refuses = serving.no_memory h rest head
+      way x refuses = serving.refused x (reading.refused h rest x head (ap (ask_of callers day) (sym same) ∙ refuses refl))
 
-  -- a refusal of what was read of a head
+  -- the same of all bytes with that head
   pub refused_at : (left : Option (List ℕ)) (early : List ℕ) (parts : HeadParts) (d : D) (u w : Option (List ℕ)) (r : Refusal) (result : Result Served IoFault)
       → (is_out_of_memory r ≡ false → ask_of callers day parts ≡ Err r) → Written u w (rendered r) (status_of r) result
       → IfSome left (λ more. (bytes : List ℕ) (h : RequestHead) → IsHead bytes h (early ++ more) → parts ≡ head_parts h
       → ServesOne answers callers day bytes d d u w result)
-  refused_at None early parts d u w r result agrees written = tt
-  refused_at (Some more) early parts d u w r result agrees written = λ bytes h head same.
-      at_head bytes d u w r result h (early ++ more) head (λ e. ap (ask_of callers day) (sym same) ∙ agrees e) written (cases_Bool (is_out_of_memory r))
+  refused_at left early parts d u w r result agrees written = always left (λ more bytes h. at_head parts bytes (early ++ more) h d u w r result agrees written)
 
   -- the request at a head, and its body
   serve_body : (bytes all : List ℕ) (old new : D) (u w : Option (List ℕ)) (h : RequestHead) (a : Asking) (result : Result Served IoFault)
@@ -121,32 +103,24 @@ module _ {D : Type 0} (answers : D → Asked → Answer → D → Type 0) (calle
   serve_body bytes all old new u w h a result head asks (inl (enough, (answer, stepped, inr (built, written)))) =
       (_, _, serving.unwritten _ answer (reading.whole h all a head asks enough) stepped built, written)
   serve_body bytes all old new u w h a result head asks (inr (inl (under, same, written))) =
-      let P : D → Type 0 = λ e. Exchange answers callers day bytes old e (rendered ShortBody) (status_of ShortBody) in
-      (_, _, subst P (sym same) (serving.refused ShortBody (reading.short_body h all a head asks under)), written)
+      (rendered ShortBody, status_of ShortBody, rw same (serving.refused ShortBody (reading.short_body h all a head asks under)), written)
   serve_body bytes all old new u w h a result head asks (inr (inr (same, written))) =
-      let P : D → Type 0 = λ e. Exchange answers callers day bytes old e (rendered OutOfMemory) (status_of OutOfMemory) in
-      (_, _, subst P (sym same) (serving.no_memory h all head), written)
+      (rendered OutOfMemory, status_of OutOfMemory, rw same (serving.no_memory h all head), written)
 
   -- the same, whichever way it went
   serve_result : (bytes all : List ℕ) (old new : D) (u w : Option (List ℕ)) (h : RequestHead) (a : Asking) (result : Result Served IoFault)
       → IsHead bytes h all → ask_of callers day (head_parts h) ≡ Ok a → ServesAsked answers a day all old new u w result
       → ServesOne answers callers day bytes old new u w result
-  serve_result bytes all old new u w h a (Ok s) head asks way = serve_body bytes all old new u w h a (Ok s) head asks way
   serve_result bytes all old new u w h a (Err fault.Read) head asks way = tt
-  serve_result bytes all old new u w h a (Err fault.Write) head asks way = serve_body bytes all old new u w h a (Err fault.Write) head asks way
+  serve_result bytes all old new u w h a result head asks way = serve_body bytes all old new u w h a result head asks way
 
   -- a request as it was read
   pub asked_at : (left : Option (List ℕ)) (early : List ℕ) (parts : HeadParts) (d e : D) (u w : Option (List ℕ)) (a : Asking) (result : Result Served IoFault)
       → ask_of callers day parts ≡ Ok a → IfSome left (λ more. ServesAsked answers a day (early ++ more) d e u w result)
       → IfSome left (λ more. (bytes : List ℕ) (h : RequestHead) → IsHead bytes h (early ++ more) → parts ≡ head_parts h
       → ServesOne answers callers day bytes d e u w result)
-  asked_at None early parts d e u w a result asks way = tt
-  asked_at (Some more) early parts d e u w a result asks way = λ bytes h head same.
-      serve_result bytes (early ++ more) d e u w h a result head (ap (ask_of callers day) (sym same) ∙ asks) way
-
--- a head with anything after it
-head_before : (bytes rest all : List ℕ) (h : RequestHead) → IsHead bytes h rest → IsHead (print_request h ++ all) h all
-head_before bytes rest all h head = record { reads = (head.reads.0, refl); short = head.short; few = head.few }
+  asked_at left early parts d e u w a result asks served = IfSome_then left served
+      (λ more way bytes h head same. serve_result bytes (early ++ more) d e u w h a result head (ap (ask_of callers day) (sym same) ∙ asks) way)
 
 module _ {D : Type 0} (answers : D → Asked → Answer → D → Type 0) (callers : List Credential) (day : ℤ) where
   -- no head was read
@@ -154,7 +128,7 @@ module _ {D : Type 0} (answers : D → Asked → Answer → D → Type 0) (calle
       → (bytes : List ℕ) × ServesOne answers callers day bytes d d u w result
   unnamed_bad d u w result written =
       let one : List ℕ = 0 ∷ [] in
-      (one, serve_refused answers callers day one d u w BadHead result (reading.bad_head (omega arith) (none_at_one 0)) written)
+      (one, by_way answers callers day one d d u w (rendered BadHead) (status_of BadHead) result (serving.refused BadHead (reading.bad_head (omega arith) (none_at_one 0))) written)
 
   -- a head was read, and refused
   pub unnamed_refused : (parts : HeadParts) (d : D) (u w : Option (List ℕ)) (r : Refusal) (result : Result Served IoFault)
@@ -162,7 +136,7 @@ module _ {D : Type 0} (answers : D → Asked → Answer → D → Type 0) (calle
       → (bytes rest : List ℕ) (h : RequestHead) → IsHead bytes h rest → parts ≡ head_parts h
       → (all : List ℕ) × ServesOne answers callers day all d d u w result
   unnamed_refused parts d u w r result agrees written = λ bytes rest h head same.
-      (bytes, at_head answers callers day bytes d u w r result h rest head (λ e. ap (ask_of callers day) (sym same) ∙ agrees e) written (cases_Bool (is_out_of_memory r)))
+      (bytes, at_head answers callers day parts bytes rest h d u w r result agrees written head same)
 
   -- a head was read, and what it asks was served
   pub unnamed_asked : (parts : HeadParts) (d e : D) (u w : Option (List ℕ)) (a : Asking) (result : Result Served IoFault)
@@ -172,7 +146,7 @@ module _ {D : Type 0} (answers : D → Asked → Answer → D → Type 0) (calle
   unnamed_asked parts d e u w a result asks (all, way) = λ bytes rest h head same. (
     print_request h ++ all,
     serve_result answers callers day (print_request h ++ all) all d e u w h a result
-        (head_before bytes rest all h head) (ap (ask_of callers day) (sym same) ∙ asks) way,
+        (record { reads = (head.reads.0, refl); short = head.short; few = head.few }) (ap (ask_of callers day) (sym same) ∙ asks) way,
   )
 
 -- what is said of any bytes at a head, of a head in the buffer
@@ -203,49 +177,35 @@ module _ {D : Type 0} (answers : D → Asked → Answer → D → Type 0) where
       → IfSome left (λ rest. ReadsBody (early ++ rest) a.length (Ok body)) → request ≡ asked_with a body.items day
       → ServesRequest answers request d e u w result → is_read result ≡ false
       → IfSome left (λ rest. ServesAsked answers a day (early ++ rest) d e u w result)
-  serve_read None early a day body request d e u w result reads is way ok = tt
-  serve_read (Some rest) early a day body request d e u w (Ok s) reads is way ok =
-      let P : Asked → Type 0 = λ q. ServesRequest answers q d e u w (Ok s) in
-      inl (reads.0, subst P (is ∙ ap (λ t. asked_with a t day) reads.1) way)
-  serve_read (Some rest) early a day body request d e u w (Err fault.Write) reads is way ok =
-      let P : Asked → Type 0 = λ q. ServesRequest answers q d e u w (Err fault.Write) in
-      inl (reads.0, subst P (is ∙ ap (λ t. asked_with a t day) reads.1) way)
-  serve_read (Some rest) early a day body request d e u w (Err fault.Read) reads is way ok = tt
+  serve_read left early a day body request d e u w (Err fault.Read) reads is way ok = always left (λ rest. tt)
+  serve_read left early a day body request d e u w result reads is way ok = IfSome_then left reads
+      (λ rest read. inl (read.0, subst (λ (q : Asked). ServesRequest answers q d e u w result) (is ∙ ap (λ t. asked_with a t day) read.1) way))
 
--- the desk was asked with a body of that length
-pub unnamed_read : {D : Type 0} (answers : D → Asked → Answer → D → Type 0) (a : Asking) (day : ℤ) (body : List ℕ) (request : Asked) (d e : D) (u w : Option (List ℕ))
-    (result : Result Served IoFault) → length body ≡ a.length → request ≡ asked_with a body day → ServesRequest answers request d e u w result → is_read result ≡ false
-    → (all : List ℕ) × ServesAsked answers a day all d e u w result
-unnamed_read answers a day body request d e u w (Ok s) long is way ok =
-    let P : Asked → Type 0 = λ q. ServesRequest answers q d e u w (Ok s) in
-    let whole = take_all a.length body (omega arith) in
-    (body, inl (omega arith, subst P (is ∙ ap (λ t. asked_with a t day) (sym whole)) way))
-unnamed_read answers a day body request d e u w (Err fault.Write) long is way ok =
-    let P : Asked → Type 0 = λ q. ServesRequest answers q d e u w (Err fault.Write) in
-    let whole = take_all a.length body (omega arith) in
-    (body, inl (omega arith, subst P (is ∙ ap (λ t. asked_with a t day) (sym whole)) way))
-unnamed_read answers a day body request d e u w (Err fault.Read) long is way ok = (body, tt)
+  -- the desk was asked with a body of that length
+  pub unnamed_read : (a : Asking) (day : ℤ) (body : List ℕ) (request : Asked) (d e : D) (u w : Option (List ℕ)) (result : Result Served IoFault)
+      → length body ≡ a.length → request ≡ asked_with a body day → ServesRequest answers request d e u w result → is_read result ≡ false
+      → (all : List ℕ) × ServesAsked answers a day all d e u w result
+  unnamed_read a day body request d e u w (Err fault.Read) long is way ok = (body, tt)
+  unnamed_read a day body request d e u w result long is way ok =
+      let whole = take_all a.length body (omega arith) in
+      (body, inl (omega arith, subst (λ (q : Asked). ServesRequest answers q d e u w result) (is ∙ ap (λ t. asked_with a t day) (sym whole)) way))
 
--- the body ended early, and that was written
-pub short_asked : {D : Type 0} (answers : D → Asked → Answer → D → Type 0) (left : Option (List ℕ)) (early : List ℕ) (a : Asking) (day : ℤ) (d : D) (u w : Option (List ℕ)) (result : Result Served IoFault)
-    → IfSome left (λ rest. ReadsBody (early ++ rest) a.length (Err ended.Short)) → Written u w (rendered ShortBody) (status_of ShortBody) result
-    → IfSome left (λ rest. ServesAsked answers a day (early ++ rest) d d u w result)
-short_asked answers None early a day d u w result short written = tt
-short_asked answers (Some rest) early a day d u w (Ok s) short written = inr (inl (short, refl, written))
-short_asked answers (Some rest) early a day d u w (Err fault.Write) short written = inr (inl (short, refl, written))
-short_asked answers (Some rest) early a day d u w (Err fault.Read) short written = tt
+  -- the body ended early, and that was written
+  pub short_asked : (left : Option (List ℕ)) (early : List ℕ) (a : Asking) (day : ℤ) (d : D) (u w : Option (List ℕ)) (result : Result Served IoFault)
+      → IfSome left (λ rest. ReadsBody (early ++ rest) a.length (Err ended.Short)) → Written u w (rendered ShortBody) (status_of ShortBody) result
+      → IfSome left (λ rest. ServesAsked answers a day (early ++ rest) d d u w result)
+  short_asked left early a day d u w (Err fault.Read) short written = always left (λ rest. tt)
+  short_asked left early a day d u w result short written = IfSome_then left short (λ rest under. inr (inl (under, refl, written)))
 
 module _ {D : Type 0} (answers : D → Asked → Answer → D → Type 0) (a : Asking) (day : ℤ) (d : D) (u w : Option (List ℕ)) where
   -- memory ran out before the desk was asked, and that was written
   spent : (all : List ℕ) (result : Result Served IoFault) → Written u w (rendered OutOfMemory) (status_of OutOfMemory) result → ServesAsked answers a day all d d u w result
-  spent all (Ok s) written = inr (inr (refl, written))
-  spent all (Err fault.Write) written = inr (inr (refl, written))
   spent all (Err fault.Read) written = tt
+  spent all result written = inr (inr (refl, written))
 
   pub spent_asked : (left : Option (List ℕ)) (early : List ℕ) (result : Result Served IoFault) → Written u w (rendered OutOfMemory) (status_of OutOfMemory) result
       → IfSome left (λ rest. ServesAsked answers a day (early ++ rest) d d u w result)
-  spent_asked None early result written = tt
-  spent_asked (Some rest) early result written = spent (early ++ rest) result written
+  spent_asked left early result written = always left (λ rest. spent (early ++ rest) result written)
 
   pub unnamed_spent : (result : Result Served IoFault) → Written u w (rendered OutOfMemory) (status_of OutOfMemory) result → (all : List ℕ) × ServesAsked answers a day all d d u w result
   unnamed_spent result written = ([], spent [] result written)
@@ -253,55 +213,40 @@ module _ {D : Type 0} (answers : D → Asked → Answer → D → Type 0) (a : A
   -- a body ended early, and that was written
   pub unnamed_short : (result : Result Served IoFault) → 0 < a.length → Written u w (rendered ShortBody) (status_of ShortBody) result
       → (all : List ℕ) × ServesAsked answers a day all d d u w result
-  unnamed_short (Ok s) some written = ([], inr (inl (some, refl, written)))
-  unnamed_short (Err fault.Write) some written = ([], inr (inl (some, refl, written)))
   unnamed_short (Err fault.Read) some written = ([], tt)
+  unnamed_short result some written = ([], inr (inl (some, refl, written)))
 
 -- the reply to an answer was written
 pub serve_reply : (answer : Answer) (text given : List ℕ) (status : ℕ) (u w : Option (List ℕ)) (r : Result Served IoFault) → IsRendered answer text → given ≡ text
     → status ≡ answer_status answer → Written u w given status r → ServesAnswer answer u w r
 serve_reply answer text given status u w r is same line written =
-    let P : List ℕ → Type 0 = λ t. Written u w t (answer_status answer) r in
-    let Q : ℕ → Type 0 = λ s. Written u w given s r in
-    inl (text, is, subst P same (subst Q line written))
+    inl (text, is, subst (λ (t : List ℕ). Written u w t (answer_status answer) r) same (subst (λ (s : ℕ). Written u w given s r) line written))
 
 -- where a read failed nothing is said of what came
 pub nothing_said : (old : Option (List ℕ)) → IfSome old (λ bytes. ⊤)
-nothing_said None = tt
-nothing_said (Some bytes) = tt
+nothing_said old = always old (λ bytes. tt)
 
 -- nothing was written, whatever came
 pub silent_same : (old : Option (List ℕ)) (P : Type 0) → P → IfSome old (λ bytes. bytes ≡ [] → P)
-silent_same None P same = tt
-silent_same (Some bytes) P same = λ none. same
+silent_same old P same = always old (λ bytes none. same)
 
 -- where no byte comes, there is neither a bad head nor a head
 pub silent_bad : (old : Option (List ℕ)) (P : Type 0) → IfSome old (λ bytes. (0 < length bytes) × HasNoHead bytes) → IfSome old (λ bytes. bytes ≡ [] → P)
-silent_bad None P bad = tt
-silent_bad (Some bytes) P bad = λ none. absurd (omega (arith, bad.0, ap length none))
-
--- nothing has no front
-nothing_in_front : (xs ys : List ℕ) → [] ≡ xs ++ ys → xs ≡ []
-nothing_in_front [] ys e = refl
-nothing_in_front (x ∷ xs) ys e = cc
+silent_bad old P bad = IfSome_then old bad (λ bytes is none. absurd (omega (arith, is.0, ap length none)))
 
 -- where no byte comes there is no head
-pub silent_whole : (old left : Option (List ℕ)) (buf : List ℕ) (headers : List HeaderSpan) (spans : RequestSpans) (filled : ℕ) (P : Type 0)
-    → HoldsHead buf headers spans filled → IfSome old (λ bytes. Consumes (Some bytes) left (take filled buf)) → IfSome old (λ bytes. bytes ≡ [] → P)
-silent_whole None left buf headers spans filled P held taken = tt
-silent_whole (Some bytes) None buf headers spans filled P held taken = absurd taken
-silent_whole (Some bytes) (Some rest) buf headers spans filled P held taken = λ none.
-    let empty : take filled buf ≡ [] = nothing_in_front (take filled buf) rest (sym none ∙ taken) in
-    let reads = subst (λ (t : List ℕ). ReadsRequest t held.head (drop spans.len (take filled buf))) empty held.at.reads in
-    let many = none_at_first held.head (drop spans.len (take filled buf)) reads in
-    let few = held.few in
-    absurd (omega arith)
+pub silent_whole : (old left : Option (List ℕ)) (buf : List ℕ) (headers : List HeaderSpan) (spans : RequestSpans) (filled : ℕ) (parts : HeadParts) (P : Type 0)
+    → HoldsHead buf headers spans filled → filled ≤ 8192 → IfSome old (λ bytes. Consumes (Some bytes) left (take filled buf))
+    → ((h : RequestHead) → IsRequestAt (take filled buf) headers spans h → parts ≡ head_parts h)
+    → IfSome old (λ bytes. bytes ≡ [] → P)
+silent_whole old left buf headers spans filled parts P held small taken reads =
+    of_whole (λ bytes. bytes ≡ [] → P) old left buf headers spans filled _ parts held small refl taken reads
+    (always left (λ more bytes h head same none. absurd (none_of_nothing bytes h _ none head)))
 
 module _ (callers : List Credential) (day : ℤ) where
   -- no more was read than a head may take
   pub waits_head : (old : Option (List ℕ)) (calls : ℕ) → calls ≤ longest_head → IfSome old (λ bytes. WaitsFor callers day bytes calls)
-  waits_head None calls small = tt
-  waits_head (Some bytes) calls small = record { headless = λ none. small; headed = λ h rest head. omega (arith, small) }
+  waits_head old calls small = always old (λ bytes. record { headless = λ none. small; headed = λ h rest head. omega (arith, small) })
 
   -- a head was read whole, and the body that it asks for
   pub waits_body : (old left : Option (List ℕ)) (buf : List ℕ) (headers : List HeaderSpan) (spans : RequestSpans) (filled : ℕ) (parts : HeadParts) (calls : ℕ)
@@ -309,15 +254,10 @@ module _ (callers : List Credential) (day : ℤ) where
       → ((h : RequestHead) → IsRequestAt (take filled buf) headers spans h → parts ≡ head_parts h)
       → calls ≤ longest_head + body_reads (ask_of callers day parts)
       → IfSome old (λ bytes. WaitsFor callers day bytes calls)
-  waits_body None left buf headers spans filled parts calls held small taken reads few = tt
-  waits_body (Some bytes) None buf headers spans filled parts calls held small taken reads few = absurd taken
-  waits_body (Some bytes) (Some rest) buf headers spans filled parts calls held small taken reads few =
-      let after_head = drop spans.len (take filled buf) ++ rest in
-      let head = head_of bytes rest buf headers spans filled held small taken in
-      let P : HeadParts → Type 0 = λ p. calls ≤ longest_head + body_reads (ask_of callers day p) in
-      record {
-        headless = λ none. absurd (none held.head after_head head);
-        headed = λ h more x.
-            (let same = request_unique bytes h held.head more after_head x.reads head.reads in
-            subst P (reads held.head held.at ∙ ap head_parts (sym same.0)) few);
-      }
+  waits_body old left buf headers spans filled parts calls held small taken reads few =
+      of_whole (λ bytes. WaitsFor callers day bytes calls) old left buf headers spans filled _ parts held small refl taken reads
+      (always left (λ more bytes h head same. record {
+        headless = λ none. absurd (none h _ head);
+        headed = λ k rest x.
+            subst (λ (p : HeadParts). calls ≤ longest_head + body_reads (ask_of callers day p)) (same ∙ ap head_parts (sym (request_unique bytes k h rest _ x.reads head.reads).0)) few;
+      }))

@@ -1,11 +1,12 @@
 -- The test of each relation of a rule, and the decision of a list of rules.
-use Rattle.std.proofs.Common.{◌≡◌, ◌⊎◌, ℕ, zero, suc, List, [], ◌∷◌, Bool, true, false, ◌&&◌, is_none, Option, Some, None, ℤ, ◌≤ℤ◌, int_le, Decides, refl, sym, ap, inl, inr, arith, negsuc, pos}
+use Rattle.std.proofs.Common.{◌≡◌, ◌⊎◌, ℕ, zero, suc, List, [], ◌∷◌, Bool, ◌&&◌, is_none, Option, Some, None, ℤ, ◌≤ℤ◌, int_le, Decides, refl, ap, inl, inr, arith, negsuc, pos}
 use Rattle.std.proofs.lemmas.Bool.{false≢true, cases_Bool, leb-true, le-leb}
 use Rattle.std.proofs.lemmas.Int.{ints}
 use Rattle.std.proofs.lemmas.Bool.Decides.{Decides-and, Decides-like, Decides-or, not_from_Decides}
 use Rattle.std.proofs.lemmas.List.Elements.{All-cons, All-nil}
 use Rattle.std.proofs.lemmas.Slice.Eq.{bytes_eq-Decides}
 use Rattle.std.specs.Bool.{beq}
+use Rattle.std.specs.Cmp.{booleans_Decides}
 use Rattle.std.specs.List.{list_any, zip}
 use Rattle.std.specs.Str.{bytes_eq}
 use denote.Enum.Bare.{same_true, sameb, true_same}
@@ -35,15 +36,14 @@ use Rattle.reg_policy.specs.declared.rule.Rule.{Rule}
 use Rattle.reg_policy.specs.declared.subject.Decision.{Decision}
 use Rattle.reg_policy.specs.declared.subject.Verb.{Verb}
 
-is_met-Decides : {A : Type 0} (same : A → A → Bool) → ((x y : A) → Decides (same x y) (x ≡ y)) → (o : Option A) (x : A) → Decides (is_met same o x) (Meets o x)
-is_met-Decides same each None x = (λ _. tt, λ _. refl)
-is_met-Decides same each (Some a) x = each a x
+-- a test of what is set decides what is said of it, where nothing set matches all
+is_set-Decides : {A B : Type 0} (same : A → B → Bool) (x : B) (Holds : Option A → Type 0) → Holds None → ((a : A) → Decides (same a x) (Holds (Some a)))
+    → (o : Option A) → Decides (is_met same o x) (Holds o)
+is_set-Decides same x Holds none each None = (λ _. none, λ _. refl)
+is_set-Decides same x Holds none each (Some a) = each a
 
-beq-Decides : (a b : Bool) → Decides (beq a b) (a ≡ b)
-beq-Decides true true = (λ _. refl, λ _. refl)
-beq-Decides true false = (λ e. absurd (false≢true e), λ e. sym e)
-beq-Decides false true = (λ e. absurd (false≢true e), λ e. e)
-beq-Decides false false = (λ _. refl, λ _. refl)
+is_met-Decides : {A : Type 0} (same : A → A → Bool) → ((x y : A) → Decides (same x y) (x ≡ y)) → (o : Option A) (x : A) → Decides (is_met same o x) (Meets o x)
+is_met-Decides same each o x = is_set-Decides same x (λ set. Meets set x) tt (λ a. each a x) o
 
 verb-Decides : (v w : Verb) → Decides (sameb the_verbs v w) (v ≡ w)
 verb-Decides v w = (same_true the_verbs tt v w, true_same the_verbs v w)
@@ -59,15 +59,10 @@ entry_from e h c hs cs (suc i, a, b) = inr (i, a, b)
 
 has_entry-Decides : (e : WantedEntry) (hs cs : List (List ℕ))
     → Decides (list_any (λ (h, c). bytes_eq h e.heading && bytes_eq c e.value) (zip hs cs)) (HasEntry e hs cs)
-has_entry-Decides e [] cs = (λ f. absurd (false≢true f), λ (i, a, b). absurd (cc))
-has_entry-Decides e (h ∷ hs) [] = (λ f. absurd (false≢true f), λ (i, a, b). absurd (cc))
 has_entry-Decides e (h ∷ hs) (c ∷ cs) =
     Decides-like _ (entry_to e h c hs cs) (entry_from e h c hs cs)
     (Decides-or _ _ (Decides-and _ _ (bytes_eq-Decides h e.heading) (bytes_eq-Decides c e.value)) (has_entry-Decides e hs cs))
-
-is_entry_met-Decides : (o : Option WantedEntry) (f : Facts) → Decides (is_met has_entry o f) (MeetsEntry o f.headings f.cells)
-is_entry_met-Decides None f = (λ _. tt, λ _. refl)
-is_entry_met-Decides (Some e) f = has_entry-Decides e f.headings f.cells
+has_entry-Decides e hs cs = (λ f. absurd (false≢true f), λ (i, a, b). absurd (cc))
 
 is_none-Decides : {A : Type 0} (o : Option A) → Decides (is_none o) (o ≡ None)
 is_none-Decides None = (λ _. refl, λ _. refl)
@@ -80,8 +75,8 @@ four-Decides a b c d p q r s =
 
 is_row_met-Decides : (r : Rule) (o : Option Facts) → Decides (is_row_met r o) (MeetsRow r o)
 is_row_met-Decides r None = four-Decides _ _ _ _ (is_none-Decides r.group) (is_none-Decides r.own) (is_none-Decides r.past) (is_none-Decides r.entry)
-is_row_met-Decides r (Some f) = four-Decides _ _ _ _ (is_met-Decides bytes_eq bytes_eq-Decides r.group f.group) (is_met-Decides beq beq-Decides r.own f.own)
-    (is_met-Decides beq beq-Decides r.past f.past) (is_entry_met-Decides r.entry f)
+is_row_met-Decides r (Some f) = four-Decides _ _ _ _ (is_met-Decides bytes_eq bytes_eq-Decides r.group f.group) (is_met-Decides beq booleans_Decides r.own f.own)
+    (is_met-Decides beq booleans_Decides r.past f.past) (is_set-Decides has_entry f (λ o. MeetsEntry o f.headings f.cells) tt (λ e. has_entry-Decides e f.headings f.cells) r.entry)
 
 int_le-Decides : (a b : ℤ) → Decides (int_le a b) (a ≤ℤ b)
 int_le-Decides (pos a) (pos b) = (λ e. omega (arith, ints, leb-true a b e), λ h. le-leb a b (omega (arith, ints, h)))
@@ -89,16 +84,10 @@ int_le-Decides (pos a) (negsuc b) = (λ e. absurd (false≢true e), λ h. absurd
 int_le-Decides (negsuc a) (pos b) = (λ e. omega (arith, ints), λ h. refl)
 int_le-Decides (negsuc a) (negsuc b) = (λ e. omega (arith, ints, leb-true b a e), λ h. le-leb b a (omega (arith, ints, h)))
 
-not_before-Decides : (o : Option ℤ) (n : ℤ) → Decides (is_met int_le o n) (NotBefore o n)
-not_before-Decides None n = (λ _. tt, λ _. refl)
-not_before-Decides (Some first) n = int_le-Decides first n
-
-not_after-Decides : (o : Option ℤ) (n : ℤ) → Decides (is_met (λ last day. int_le day last) o n) (NotAfter o n)
-not_after-Decides None n = (λ _. tt, λ _. refl)
-not_after-Decides (Some last) n = int_le-Decides n last
-
 is_in_period-Decides : (p : Period) (n : ℤ) → Decides (is_in_period p n) (IsInPeriod p n)
-is_in_period-Decides p n = Decides-and _ _ (not_before-Decides p.from n) (not_after-Decides p.until n)
+is_in_period-Decides p n =
+    Decides-and _ _ (is_set-Decides int_le n (λ o. NotBefore o n) tt (λ first. int_le-Decides first n) p.from)
+    (is_set-Decides (λ last day. int_le day last) n (λ o. NotAfter o n) tt (λ last. int_le-Decides n last) p.until)
 
 pub matches-Decides : (r : Rule) (s : Question) → Decides (matches r s) (Matches r s)
 matches-Decides r s =

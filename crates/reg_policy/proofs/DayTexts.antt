@@ -9,9 +9,10 @@ use Rattle.std.proofs.lemmas.Str.{IsUtf8-from_ascii}
 use Rattle.std.proofs.lemmas.Str.Ascii.{IsAscii-from_all}
 use Rattle.jiff.specs.Words.{IsDate}
 use Rattle.jiff_core.specs.Calendar.{IsCivilDate, day_count, days_from_civil}
-use Rattle.jiff_core.proofs.CalendarLemmas.{day_count-day, day_count-lt_month, day_count-lt_year, days_from_civil-day_count, days_in_month_bounds}
+use Rattle.jiff_core.proofs.CalendarLemmas.{day_count-day, day_count-lt_month, day_count-lt_year, days_from_civil-day_count}
 use Rattle.ags_text.specs.Bytes.{ascii_end, zero_digit}
 use Rattle.reg_policy.specs.Names.{hyphen}
+use Rattle.reg_policy.proofs.Days.{small_parts}
 use Rattle.reg_policy.specs.Days.{OneTextOfDay, Writes, day_text, two_digit_text}
 
 abbrev IsAsciiByte : ℕ → Type 0
@@ -40,9 +41,7 @@ text_is_ascii year month day small_year small_month small_day =
 -- what writes a day is text
 pub Writes-utf8 : (text : List ℕ) (n : ℤ) → Writes text n → IsUtf8 text
 Writes-utf8 text n (year, month, day, (small_year, (date, number)), is) =
-    let short = (days_in_month_bounds (pos year) month).0 in
-    let small_month : month < 100 = omega (arith, ints, date.1) in
-    let small_day : day < 100 = omega (arith, ints, date.2, short) in
+    let (small_month, small_day) = small_parts year month day date in
     subst IsUtf8 (sym is) (IsUtf8-from_ascii (day_text year month day)
     (IsAscii-from_all (day_text year month day) (text_is_ascii year month day small_year small_month small_day)))
 

@@ -8,6 +8,7 @@ use Rattle.jiff_core.specs.declared.civil.date.Date.{Date}
 use Rattle.jiff_core.proofs.DateLemmas.{civil}
 use Rattle.jiff_core.specs.Calendar.{days_from_civil, IsCivilDate}
 use Rattle.jiff_core.proofs.CalendarLemmas.{days_in_month_bounds, day_count-lt_year, day_count-epoch, days_from_civil-day_count}
+use Rattle.std.proofs.lemmas.Option.{same_Some}
 use Rattle.std.proofs.lemmas.Slice.Eq.{bytes_eq-Decides}
 use Rattle.std.specs.Str.{bytes_eq}
 use Rattle.reg_policy.specs.Days.{year_text, number_in, is_date, day_number_of, day_of, two_digit_text, day_text, is_day_number, IsDateOf, HasDate, IsWritten, Writes}
@@ -22,31 +23,26 @@ day_bounds (pos k) h =
     (omega (arith, ints), omega (arith, ints, leb-true k 2_932_896 high))
 day_bounds (negsuc k) h = absurd (false≢true h)
 
-same_two : (a b : ℕ) → a < 100 → b < 100 → 48 + a / 10 ≡ 48 + b / 10 → 48 + a % 10 ≡ 48 + b % 10 → a ≡ b
-same_two a b ha hb e f = omega arith
-
 -- a calendar date has few digits
-small_month : (y m d n : ℕ) → n ≤ 31 → IsBetween (pos 1) (pos 12) (pos m) → IsBetween (pos 1) (pos n) (pos d) → (m < 100) × (d < 100)
-small_month y m d n h a b = (omega (arith, ints), omega (arith, ints))
+pub small_parts : (y m d : ℕ) → IsDate (pos y) (pos m) (pos d) → (m < 100) × (d < 100)
+small_parts y m d date =
+    let short = (days_in_month_bounds (pos y) m).0 in (omega (arith, ints, date.1), omega (arith, ints, date.2, short))
 
-small_parts : (y m d : ℕ) → IsDate (pos y) (pos m) (pos d) → (m < 100) × (d < 100)
-small_parts y m d date = small_month y m d (days_in_month (pos y) m) (days_in_month_bounds (pos y) m).0 date.1 date.2
+-- the digits give back the number that they were made of
+four-digits : (n : ℕ) → n < 10000 → number_in (year_text n) ≡ n
+four-digits n small = omega arith
+
+two-digits : (n : ℕ) → n < 100 → number_in (two_digit_text n) ≡ n
+two-digits n small = omega arith
 
 -- a text is written by one year, month and day
-pub one_text : (y m d y2 m2 d2 : ℕ) → y < 10000 → m < 100 → d < 100 → y2 < 10000 → m2 < 100 → d2 < 100
+one_text : (y m d y2 m2 d2 : ℕ) → y < 10000 → m < 100 → d < 100 → y2 < 10000 → m2 < 100 → d2 < 100
     → day_text y m d ≡ day_text y2 m2 d2 → (y ≡ y2) × (m ≡ m2) × (d ≡ d2)
-one_text y m d y2 m2 d2 hy hm hd hy2 hm2 hd2 e =
-    let a : 48 + (y / 100) / 10 ≡ 48 + (y2 / 100) / 10 = cc in
-    let b : 48 + (y / 100) % 10 ≡ 48 + (y2 / 100) % 10 = cc in
-    let c : 48 + (y % 100) / 10 ≡ 48 + (y2 % 100) / 10 = cc in
-    let f : 48 + (y % 100) % 10 ≡ 48 + (y2 % 100) % 10 = cc in
-    let g : 48 + m / 10 ≡ 48 + m2 / 10 = cc in
-    let h : 48 + m % 10 ≡ 48 + m2 % 10 = cc in
-    let i : 48 + d / 10 ≡ 48 + d2 / 10 = cc in
-    let j : 48 + d % 10 ≡ 48 + d2 % 10 = cc in
-    let high = same_two (y / 100) (y2 / 100) (omega arith) (omega arith) a b in
-    let low = same_two (y % 100) (y2 % 100) (omega arith) (omega arith) c f in
-    (omega arith, same_two m m2 hm hm2 g h, same_two d d2 hd hd2 i j)
+one_text y m d y2 m2 d2 hy hm hd hy2 hm2 hd2 e = (
+  sym (four-digits y hy) ∙ ap (λ t. number_in (take 4 t)) e ∙ four-digits y2 hy2,
+  sym (two-digits m hm) ∙ ap (λ t. number_in (take 2 (drop 5 t))) e ∙ two-digits m2 hm2,
+  sym (two-digits d hd) ∙ ap (λ t. number_in (take 2 (drop 8 t))) e ∙ two-digits d2 hd2,
+)
 
 -- the readers of the parts and of the number, one after the other
 abbrev pub Parts : List ℕ → Option (ℕ × ℕ × ℕ) → Type 0
@@ -67,18 +63,9 @@ the_day text y m d k (hy, hm, hd, e) (date, num) n (y2, m2, d2, (hy2, (date2, nu
 pub number_is : (date : Date) (y m d : ℕ) (ys ms ds k k2 : ℤ) → ys ≡ pos y → ms ≡ pos m → ds ≡ pos d → IsDate ys ms ds → IsYmd ys ms ds date
     → k ≡ epoch_day date → k2 ≡ k → (n : ℤ) → (Some k2 ≡ Some n) ↔ IsDateOf y m d n
 number_is date y m d ys ms ds k k2 ey em ed there v ek e2 n =
-    let real : IsDate (pos y) (pos m) (pos d) =
-    subst (λ z. IsDate z (pos m) (pos d)) ey (subst (λ z. IsDate ys z (pos d)) em (subst (λ z. IsDate ys ms z) ed there)) in
-    let yy : date.year ≡ pos y = v.0 ∙ ey in
-    let mp : pos date.month ≡ pos m = v.1 ∙ em in
-    let dp : pos date.day ≡ pos d = v.2 ∙ ed in
-    let mm : date.month ≡ m = cc in
-    let dd : date.day ≡ d = cc in
-    let num : epoch_day date ≡ days_from_civil (pos y) m d =
-    ap (λ z. days_from_civil z date.month date.day) yy ∙ ap (λ z. days_from_civil (pos y) z date.day) mm ∙ ap (λ z. days_from_civil (pos y) m z) dd in (
-      λ e. let f : k2 ≡ n = cc in (real, sym num ∙ sym ek ∙ sym e2 ∙ f),
-      λ w. ap Some (e2 ∙ ek ∙ num ∙ w.1),
-    )
+    let real : IsDate (pos y) (pos m) (pos d) = rw (ey, em, ed) at there in
+    let num : days_from_civil date.year date.month date.day ≡ days_from_civil (pos y) m d = cc in
+    (λ e. (real, cc), λ w. cc)
 
 year_cases : (z : ℤ) (m d : ℕ) → IsCivilDate z m d → pos 0 ≤ℤ days_from_civil z m d → (y : ℕ) × (z ≡ pos y) × (y < 10000)
 year_cases (pos y) m d h low = (y, refl, omega (arith, ints, h.0))
@@ -86,15 +73,12 @@ year_cases (negsuc k) m d h low =
     let before = day_count-lt_year (negsuc k) m d (pos 1970) 1 1 h (omega arith) (omega (arith, ints)) in
     absurd (omega (arith, ints, before, day_count-epoch, days_from_civil-day_count (negsuc k) m d, low))
 
-pub year_of : (date : Date) (n : ℤ) → epoch_day date ≡ n → IsDayNumber n → (y : ℕ) × (date.year ≡ pos y) × (y < 10000)
-year_of date n e in_range = year_cases date.year date.month date.day (civil date) (subst (λ z. pos 0 ≤ℤ z) (sym e) (day_bounds n in_range).0)
-
 civil_from : (y m d n : ℕ) → IsInRange 1 12 m → IsInRange 1 n d → y < 10000 → IsYear (pos y) × IsBetween (pos 1) (pos 12) (pos m) × IsBetween (pos 1) (pos n) (pos d)
 civil_from y m d n a b small = ((omega (arith, ints), omega (arith, ints)), (omega (arith, ints), omega (arith, ints)), (omega (arith, ints), omega (arith, ints)))
 
 pub has_date : (date : Date) (n : ℤ) → epoch_day date ≡ n → IsDayNumber n → HasDate (unsigned_abs date.year) date.month date.day n
 has_date date n e in_range =
-    let (y, same, small) = year_of date n e in_range in
+    let (y, same, small) = year_cases date.year date.month date.day (civil date) (rw e (day_bounds n in_range).0) in
     let c = civil date in
     rw same (
       small,
@@ -108,9 +92,7 @@ pub read_day : (text : List ℕ) (parts : Option (ℕ × ℕ × ℕ)) (y m d : �
     → (IsSome r ↔ IsDayNumber k) → IfSome r (λ z. z ≡ k) → (n : ℤ) → (r ≡ Some n) ↔ (Writes text n × IsDayNumber n)
 read_day text parts y m d k (Some z) h is date some value n =
     let w = (h y m d).0 is in (
-      λ e. let f : z ≡ n = cc in
-          let g : n ≡ k = sym f ∙ value in
-          ((y, m, d, (w.0, (date.0, date.1 ∙ sym g)), w.3), subst IsDayNumber (sym g) (some.0 refl)),
+      λ e. let g : n ≡ k = cc in rw g ((y, m, d, (w.0, date), w.3), some.0 refl),
       λ p. ap Some (value ∙ sym (the_day text y m d k w date n p.0)),
     )
 read_day text parts y m d k None h is date some value n =
@@ -120,18 +102,8 @@ read_day text parts y m d k None h is date some value n =
 -- a text of ten bytes, byte by byte
 ten_of : (t : List ℕ) → length t ≡ 10
     → t ≡ get_or t 0 0 ∷ get_or t 1 0 ∷ get_or t 2 0 ∷ get_or t 3 0 ∷ get_or t 4 0 ∷ get_or t 5 0 ∷ get_or t 6 0 ∷ get_or t 7 0 ∷ get_or t 8 0 ∷ get_or t 9 0 ∷ []
-ten_of ([]) len = absurd (omega arith)
-ten_of (a ∷ []) len = absurd (omega arith)
-ten_of (a ∷ b ∷ []) len = absurd (omega arith)
-ten_of (a ∷ b ∷ c ∷ []) len = absurd (omega arith)
-ten_of (a ∷ b ∷ c ∷ d ∷ []) len = absurd (omega arith)
-ten_of (a ∷ b ∷ c ∷ d ∷ e ∷ []) len = absurd (omega arith)
-ten_of (a ∷ b ∷ c ∷ d ∷ e ∷ f ∷ []) len = absurd (omega arith)
-ten_of (a ∷ b ∷ c ∷ d ∷ e ∷ f ∷ g ∷ []) len = absurd (omega arith)
-ten_of (a ∷ b ∷ c ∷ d ∷ e ∷ f ∷ g ∷ h ∷ []) len = absurd (omega arith)
-ten_of (a ∷ b ∷ c ∷ d ∷ e ∷ f ∷ g ∷ h ∷ i ∷ []) len = absurd (omega arith)
 ten_of (a ∷ b ∷ c ∷ d ∷ e ∷ f ∷ g ∷ h ∷ i ∷ j ∷ []) len = refl
-ten_of (a ∷ b ∷ c ∷ d ∷ e ∷ f ∷ g ∷ h ∷ i ∷ j ∷ k ∷ rest) len = absurd (omega arith)
+ten_of t len = absurd (omega arith)
 
 pub parts_are : (t : List ℕ) (c y m d : ℕ) → length t ≡ 10 → get_or t 4 0 ≡ 45 → get_or t 7 0 ≡ 45 → c < 100 → y < 100 → m < 100 → d < 100
     → two_digit_text c ≡ get_or t 0 0 ∷ get_or t 1 0 ∷ [] → two_digit_text y ≡ get_or t 2 0 ∷ get_or t 3 0 ∷ []
@@ -142,33 +114,13 @@ parts_are t c y m d len e4 e7 hc hy hm hd tc ty tm td y2 m2 d2 =
     let high : year / 100 ≡ c = omega arith in
     let low : year % 100 ≡ y = omega arith in
     let in_range : year < 10000 = omega arith in
-    let g0 : 48 + c / 10 ≡ get_or t 0 0 = cc in
-    let g1 : 48 + c % 10 ≡ get_or t 1 0 = cc in
-    let g2 : 48 + y / 10 ≡ get_or t 2 0 = cc in
-    let g3 : 48 + y % 10 ≡ get_or t 3 0 = cc in
-    let g5 : 48 + m / 10 ≡ get_or t 5 0 = cc in
-    let g6 : 48 + m % 10 ≡ get_or t 6 0 = cc in
-    let g8 : 48 + d / 10 ≡ get_or t 8 0 = cc in
-    let g9 : 48 + d % 10 ≡ get_or t 9 0 = cc in
-    let whole : t ≡ day_text year m d = ten_of t len ∙ (rw (high, low, g0, g1, g2, g3, g5, g6, g8, g9, e4, e7)) in
-    let w : IsWritten year m d t = (in_range, hm, hd, whole) in
-    let p : ℕ × ℕ × ℕ = (year, m, d) in
-    let q : ℕ × ℕ × ℕ = (y2, m2, d2) in (
-      λ e. let same : p ≡ q = cc in subst (λ (z : ℕ × ℕ × ℕ). IsWritten z.0 z.1 z.2 t) same w,
+    let whole : t ≡ day_text year m d = cc (ten_of t len) in
+    let w : IsWritten year m d t = (in_range, hm, hd, whole) in (
+      λ e. subst (λ (z : ℕ × ℕ × ℕ). IsWritten z.0 z.1 z.2 t) (same_Some _ _ e) w,
       λ v. let (a, b, f) = one_text year m d y2 m2 d2 in_range hm hd v.0 v.1 v.2 (sym whole ∙ v.3) in rw (a, b, f),
     )
 
--- the digits give back the number that they were made of
-four-digits : (n : ℕ) → n < 10000 → number_in (year_text n) ≡ n
-four-digits n small = omega arith
-
-two-digits : (n : ℕ) → n < 100 → number_in (two_digit_text n) ≡ n
-two-digits n small = omega arith
-
 -- the calendar's test
-date_from : (y m d n : ℕ) → y < 10000 → 1 ≤ m → m ≤ 12 → 1 ≤ d → d ≤ n → IsYear (pos y) × IsBetween (pos 1) (pos 12) (pos m) × IsBetween (pos 1) (pos n) (pos d)
-date_from y m d n h a b c e = ((omega (arith, ints), omega (arith, ints)), (omega (arith, ints), omega (arith, ints)), (omega (arith, ints), omega (arith, ints)))
-
 date_sound : (y m d : ℕ) → is_date y m d ≡ true → (y < 10000) × IsDate (pos y) (pos m) (pos d)
 date_sound y m d h =
     let n = days_in_month (pos y) m in
@@ -177,15 +129,13 @@ date_sound y m d h =
     let (e, late) = and_parts (nat_lt y 10000 && nat_le 1 m) (nat_le m 12) f in
     let (year, early) = and_parts (nat_lt y 10000) (nat_le 1 m) e in
     let small = ltb-true y 10000 year in
-    (small, date_from y m d n small (leb-true 1 m early) (leb-true m 12 late) (leb-true 1 d first) (leb-true d n last))
-
-month_from : (m d n : ℕ) → IsBetween (pos 1) (pos 12) (pos m) → IsBetween (pos 1) (pos n) (pos d) → (1 ≤ m) × (m ≤ 12) × (1 ≤ d) × (d ≤ n)
-month_from m d n a b = (omega (arith, ints), omega (arith, ints), omega (arith, ints), omega (arith, ints))
+    (small, civil_from y m d n (leb-true 1 m early, leb-true m 12 late) (leb-true 1 d first, leb-true d n last) small)
 
 date_complete : (y m d : ℕ) → y < 10000 → IsDate (pos y) (pos m) (pos d) → is_date y m d ≡ true
 date_complete y m d h date =
-    let w = month_from m d (days_in_month (pos y) m) date.1 date.2 in
-    rw (lt-ltb y 10000 h, le-leb 1 m w.0, le-leb m 12 w.1, le-leb 1 d w.2, le-leb d (days_in_month (pos y) m) w.3)
+    let first = le-leb 1 m (omega (arith, ints, date.1)) in
+    let last = le-leb m 12 (omega (arith, ints, date.1)) in
+    rw (lt-ltb y 10000 h, first, last, le-leb 1 d (omega (arith, ints, date.2)), le-leb d (days_in_month (pos y) m) (omega (arith, ints, date.2)))
 
 -- what a test that was passed gave
 if_some : {A : Type 0} (b : Bool) (o : Option A) (a : A) → (if b then o else None) ≡ Some a → (b ≡ true) × (o ≡ Some a)
@@ -201,14 +151,6 @@ number_sound y m d n e =
     let (small, there) = date_sound y m d date in
     ((small, (there, same)), subst IsDayNumber same in_range)
 
-number_complete : (y m d : ℕ) (n : ℤ) → HasDate y m d n → IsDayNumber n → day_number_of y m d ≡ Some n
-number_complete y m d n (small, (date, same)) in_range =
-    rw (date_complete y m d small date, same, in_range)
-
-day_of-text : (y m d : ℕ) → y < 10000 → m < 100 → d < 100 → day_of (day_text y m d) ≡ day_number_of y m d
-day_of-text y m d hy hm hd =
-    rw (four-digits y hy, two-digits m hm, two-digits d hd, (bytes_eq-Decides (day_text y m d) (day_text y m d)).1 refl)
-
 -- the day of a text is the one that it writes
 pub day_of-Writes : (text : List ℕ) (n : ℤ) → (day_of text ≡ Some n) ↔ (Writes text n × IsDayNumber n)
 day_of-Writes text n = (
@@ -220,10 +162,10 @@ day_of-Writes text n = (
       let (date, in_range) = number_sound y m d n is in
       ((y, m, d, date, (bytes_eq-Decides text (day_text y m d)).0 same), in_range),
   λ w.
-      let ((y, m, d, date, is), in_range) = w in
-      let (small, there) = date in
-      let (sm, sd) = small_parts y m d there.0 in
-      rw is (day_of-text y m d small sm sd ∙ number_complete y m d n date in_range),
+      let ((y, m, d, (small, (there, num)), is), in_range) = w in
+      let (sm, sd) = small_parts y m d there in
+      let whole = (bytes_eq-Decides (day_text y m d) (day_text y m d)).1 refl in
+      rw is (rw (four-digits y small, two-digits m sm, two-digits d sd, whole, date_complete y m d small there, num, in_range)),
 )
 
 -- two answers that hold the same are the same

@@ -5,14 +5,14 @@ use Rattle.std.proofs.lemmas.List.{take_more, take_all}
 use Rattle.std.specs.List.{list_all, list_any}
 use Rattle.std.specs.Result.{IsErrAnd}
 use Rattle.std.specs.Map.{keys_of}
-use Rattle.toml.specs.Data.{Data, string, integer, float, boolean, datetime, array, table, Items, Members, as_array, as_table, get_member}
+use Rattle.toml.specs.Data.{Data, array, table, Items, Members, as_array, as_table, get_member}
 use Rattle.toml.specs.View.{view, items_view, members_view}
 use Rattle.toml.proofs.Lines.{data_of_array, data_of_table}
 use Rattle.toml.specs.declared.value.Value.{Value}
 use Rattle.reg_policy.specs.Documents.{all_items, all_keys, have_known_keys, is_known_key, is_known, Each, InTable, TablesSay}
 use Rattle.reg_policy.specs.Readers.{Gives}
 use Rattle.reg_policy.specs.declared.document.ReadError.{ReadError}
-use Rattle.reg_policy.specs.declared.document.ReadError.TheVariants.{Syntax, UnknownKey, BadValue, NoMemory}
+use Rattle.reg_policy.specs.declared.document.ReadError.TheVariants.{BadValue}
 use Rattle.std.specs.Str.{bytes_eq}
 
 -- a value whose accessor gives a table or an array
@@ -24,13 +24,8 @@ array_is d ds e = sym (data_of_array d ds (sym e))
 
 -- a value that is no table has nothing that a table has
 pub no_table : {A : Type 0} (P : Members → A → Type 0) (d : Data) → None ≡ as_table d → (a : A) → ¬ (InTable P d a)
-no_table P (string s) e a h = h
-no_table P (integer z) e a h = h
-no_table P (float x) e a h = h
-no_table P (boolean b) e a h = h
-no_table P (datetime dt) e a h = h
-no_table P (array ds) e a h = h
 no_table P (table ms) e a h = cc
+no_table P d e a h = h
 
 -- a slice of keys has a key as the list of these keys has it
 pub known_in : (known : List (Bor (List ℕ))) (key : List ℕ) → list_any (λ k. bytes_eq k.now key) known ≡ is_known_key (map (λ k. k.now) known) key
@@ -54,9 +49,8 @@ known_at key keys document name o b one same found e = rw one (e ∙ ap (have_kn
 -- one item more
 each_last : {A : Type 0} (P : Members → A → Type 0) (vs : List Value) (bs : List A) (v : Value) (b : A) → Each P (items_view vs) bs → InTable P (view v) b → Each P (items_view (vs ++ v ∷ [])) (bs ++ b ∷ [])
 each_last P [] [] v b h p = (p, tt)
-each_last P [] (c ∷ bs) v b h p = absurd h
-each_last P (u ∷ vs) [] v b h p = absurd h
 each_last P (u ∷ vs) (c ∷ bs) v b h p = (h.0, each_last P vs bs v b h.1 p)
+each_last P vs bs v b h p = absurd h
 
 pub each_more : {A : Type 0} (P : Members → A → Type 0) (vs : List Value) (i : ℕ) (v : Value) (bs : List A) (b : A) → i < length vs → v ≡ get_or vs i v
     → Each P (items_view (take i vs)) bs → InTable P (view v) b → Each P (items_view (take (i + 1) vs)) (bs ++ b ∷ [])
@@ -74,13 +68,8 @@ none_each P (u ∷ vs) zero v low is bad (b ∷ bs) h = bad b (rw is h.0)
 none_each P (u ∷ vs) (suc i) v low is bad (b ∷ bs) h = none_each P vs i v (omega arith) is bad bs h.1
 
 no_array_in : {A : Type 0} (P : Members → A → Type 0) (d : Data) → None ≡ as_array d → (bs : List A) → ¬ (TablesSay P (Some d) bs)
-no_array_in P (string s) e bs h = h
-no_array_in P (integer z) e bs h = h
-no_array_in P (float x) e bs h = h
-no_array_in P (boolean b) e bs h = h
-no_array_in P (datetime dt) e bs h = h
 no_array_in P (array ds) e bs h = cc
-no_array_in P (table ms) e bs h = h
+no_array_in P d e bs h = h
 
 -- a value that is no array lists nothing
 pub no_array : {A : Type 0} (P : Members → A → Type 0) (o : Option Data) (d : Data) → Some d ≡ o → None ≡ as_array d → (bs : List A) → ¬ (TablesSay P o bs)
@@ -88,10 +77,8 @@ no_array P o d found e bs h = no_array_in P d e bs (rw (← found) at h)
 
 -- a refusal of one part is one of a larger part, if the larger has no value without the smaller
 pub refused : {A B : Type 0} (P : A → Type 0) (Q : B → Type 0) (e : ReadError) → Gives P (Err e) → (((a : A) → ¬ (P a)) → (b : B) → ¬ (Q b)) → Gives Q (Err e)
-refused P Q Syntax h f = h
-refused P Q UnknownKey h f = h
 refused P Q BadValue h f = f h
-refused P Q NoMemory h f = h
+refused P Q e h f = h
 
 -- the same of what a `?` hands on
 pub passed_on : {A B : Type 0} (P : A → Type 0) (Q : B → Type 0) (e : ReadError) (r : Result B ReadError) (Same : ReadError → Type 0) → IsErrAnd r Same

@@ -3,7 +3,7 @@ use Rattle.std.proofs.Common.{◌≡◌, ℕ, List, Bool, true, false, cond, cod
 use Rattle.std.proofs.lemmas.Bool.{false≢true}
 use Rattle.std.proofs.lemmas.Slice.Eq.{bytes_eq-Decides}
 use Rattle.std.specs.Str.{bytes_eq}
-use Rattle.toml.specs.Data.{Data, string, integer, float, boolean, datetime, array, table, as_str}
+use Rattle.toml.specs.Data.{Data, string, as_str}
 use Rattle.reg_policy.specs.Days.{Writes, is_day_number}
 use Rattle.reg_policy.specs.Rules.{IsDayAt, IsSettingOf}
 use Rattle.reg_policy.specs.Readers.{GivesText, GivesWord}
@@ -11,21 +11,11 @@ use Rattle.reg_policy.specs.declared.document.ReadError.TheVariants.{BadValue}
 
 text_in : (d : Data) (t : Bor (List ℕ)) → as_str d ≡ Some t.now → GivesText (Some d) (Ok (Some t))
 text_in (string s) t e = let f : s ≡ t.now = cc in (ap Some (sym f), refl)
-text_in (integer z) t e = cc
-text_in (float x) t e = cc
-text_in (boolean b) t e = cc
-text_in (datetime dt) t e = cc
-text_in (array ds) t e = cc
-text_in (table ms) t e = cc
+text_in d t e = cc
 
 no_text_in : (d : Data) → as_str d ≡ None → GivesText (Some d) (Err BadValue)
 no_text_in (string s) e = cc
-no_text_in (integer z) e = refl
-no_text_in (float x) e = refl
-no_text_in (boolean b) e = refl
-no_text_in (datetime dt) e = refl
-no_text_in (array ds) e = refl
-no_text_in (table ms) e = refl
+no_text_in d e = refl
 
 pub text_some : (o : Option Data) (d : Data) (t : Bor (List ℕ)) → Some d ≡ o → as_str d ≡ Some t.now → GivesText o (Ok (Some t))
 text_some o d t e f = rw (← e) (text_in d t f)
@@ -45,25 +35,13 @@ word_cases W s t a false is e w =
 
 -- a word that is no `*`, and what it means
 pub word_some : {A : Type 0} (W : List ℕ → A → Type 0) (o : Option Data) (t : Bor (List ℕ)) (a : A) → GivesWord o (Ok (Some t)) → W t.now a → IsSettingOf W o (Some a)
-word_some W None t a h w = cc
 word_some W (Some (string s)) t a h w = word_cases W s t.now a (bytes_eq s (codes "*")) refl h.0 w
-word_some W (Some (integer z)) t a h w = cc
-word_some W (Some (float x)) t a h w = cc
-word_some W (Some (boolean b)) t a h w = cc
-word_some W (Some (datetime dt)) t a h w = cc
-word_some W (Some (array ds)) t a h w = cc
-word_some W (Some (table ms)) t a h w = cc
+word_some W o t a h w = cc
 
 -- a text that writes a day
 pub day_some : (o : Option Data) (t : Bor (List ℕ)) (day : ℤ) → GivesText o (Ok (Some t)) → Writes t.now day × IsTrue (is_day_number day)
     → IsDayAt o (Some day)
-day_some None t day h w = cc
 day_some (Some (string s)) t day h w =
     let same : t.now ≡ s = cc in
     subst (λ z. Writes z day × IsTrue (is_day_number day)) same w
-day_some (Some (integer z)) t day h w = cc
-day_some (Some (float x)) t day h w = cc
-day_some (Some (boolean b)) t day h w = cc
-day_some (Some (datetime dt)) t day h w = cc
-day_some (Some (array ds)) t day h w = cc
-day_some (Some (table ms)) t day h w = cc
+day_some o t day h w = cc

@@ -19,13 +19,9 @@ no_entry_more e hs cs n x y ax ay apart before = λ k low au av. elim (cases_lt 
   | inl less ↦ before k less au av
   | inr more ↦
       let same : k ≡ n = omega arith in
-      let a : Some e.heading ≡ Some x = sym au ∙ ap (slice_get hs) same ∙ ax in
-      let b : Some e.value ≡ Some y = sym av ∙ ap (slice_get cs) same ∙ ay in
       apart (cc, cc)
 ]
 
 pub no_entry : (e : WantedEntry) (hs cs : List (List ℕ)) (n : ℕ) → n ≡ min (length hs) (length cs) → NoEntryBelow e hs cs n → ¬ (HasEntry e hs cs)
 no_entry e hs cs n all before (k, a, b) =
-    let h = slice_get_within hs k e.heading a in
-    let g = slice_get_within cs k e.value b in
-    before k (omega arith) a b
+    before k (omega (arith, slice_get_within hs k e.heading a, slice_get_within cs k e.value b)) a b

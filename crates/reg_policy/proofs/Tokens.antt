@@ -18,9 +18,7 @@ has_key token keys = list_any (λ k. bytes_eq token k.now) keys
 
 swap_or : (a b c : Bool) → (a || (b || c)) ≡ (b || (a || c))
 swap_or true true c = refl
-swap_or true false c = refl
-swap_or false true c = refl
-swap_or false false c = refl
+swap_or a b c = refl
 
 same_or : (a c : Bool) → (a || c) ≡ (a || (a || c))
 same_or true c = refl
