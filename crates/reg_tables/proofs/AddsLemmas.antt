@@ -1,9 +1,9 @@
 -- Changes, one after the other.
-use Rattle.std.proofs.Common.{◌≡◌, ◌≢◌, ◌==◌, true, false, ℕ, suc, ◌+◌, ◌<◌, ◌≤◌, drop, List, [], ◌∷◌, ◌++◌, map, length, take, get_or, append_assoc, append-nil, IsTrue, Result, Ok, Err, inl, inr, refl, sym, ap, subst, subst₂, ◌∙◌, arith}
+use Rattle.std.proofs.Common.{◌≡◌, ◌≢◌, ℕ, suc, ◌+◌, ◌<◌, ◌≤◌, drop, List, [], ◌∷◌, ◌++◌, map, length, take, get_or, append_assoc, append-nil, IsTrue, Result, Ok, Err, inl, inr, ◌⊎◌, refl, sym, ap, subst, subst₂, ◌∙◌, arith}
 use Rattle.std.proofs.Math.Logic.{∥∥₁_elim}
 use Rattle.std.proofs.Math.Seq.{take-add, take-suc}
 use Rattle.std.proofs.Props.{props}
-use Rattle.std.proofs.lemmas.Bool.{eq-eqb}
+use Rattle.std.proofs.lemmas.Bool.{eqb-false}
 use Rattle.std.proofs.lemmas.List.{map-append, length-take-le, take_all, take_more_set}
 use Rattle.std.specs.List.{AllByRecursion, flat_map}
 use Rattle.std.specs.List.Sorted.{IsPermutation}
@@ -115,11 +115,11 @@ steps_rest n at m steps a b c past one two =
 pub file_then : (n : ℕ) (d : Sent) (rows : List KeptRow) (graph : List (ℕ × ℕ)) (a b c e : State) → Inside (AddsDeposit n d) a b → Inside (AddsLines (line_rows n 0 rows)) b c → Inside (AddsSteps (step_rows n graph)) c e
     → Inside (Makes (AddsFile n d rows graph)) a e
 file_then n d rows graph a b c e one two three =
-    let meta : e.now.trees 0 ≡ a.now.trees 0 = three.change.others.0 (apart 0 6 refl) ∙ two.change.others.0 (apart 0 4 refl) ∙ one.change.others.0 (apart 0 2 refl) in
-    let deposits : e.now.trees 2 ≡ b.now.trees 2 = three.change.others.1.0 (apart 2 6 refl) ∙ two.change.others.1.0 (apart 2 4 refl) in
-    let first : b.now.trees 4 ≡ a.now.trees 4 = one.change.others.1.1.0 (apart 4 2 refl) in
-    let last : e.now.trees 4 ≡ c.now.trees 4 = three.change.others.1.1.0 (apart 4 6 refl) in
-    let before : c.now.trees 6 ≡ a.now.trees 6 = two.change.others.1.1.1.0 (apart 6 4 refl) ∙ one.change.others.1.1.1.0 (apart 6 2 refl) in
+    let meta : e.now.trees 0 ≡ a.now.trees 0 = three.change.others.0 (eqb-false 0 6 refl) ∙ two.change.others.0 (eqb-false 0 4 refl) ∙ one.change.others.0 (eqb-false 0 2 refl) in
+    let deposits : e.now.trees 2 ≡ b.now.trees 2 = three.change.others.1.0 (eqb-false 2 6 refl) ∙ two.change.others.1.0 (eqb-false 2 4 refl) in
+    let first : b.now.trees 4 ≡ a.now.trees 4 = one.change.others.1.1.0 (eqb-false 4 2 refl) in
+    let last : e.now.trees 4 ≡ c.now.trees 4 = three.change.others.1.1.0 (eqb-false 4 6 refl) in
+    let before : c.now.trees 6 ≡ a.now.trees 6 = two.change.others.1.1.1.0 (eqb-false 6 4 refl) ∙ one.change.others.1.1.1.0 (eqb-false 6 2 refl) in
     record {
       change = record {
         change = record {
@@ -128,7 +128,7 @@ file_then n d rows graph a b c e one two three =
           deposits = subst (λ (new : List Row). IsMore (map columns_5 (a.now.trees 2)) (given_deposit n d ∷ []) (map columns_5 new)) (sym deposits) one.change.rows;
           lines = subst₂ (λ (old new : List Row). IsMore (map columns_5 old) (line_rows n 0 rows) (map columns_5 new)) first (sym last) two.change.rows;
           steps = subst (λ (old : List Row). IsMore (map columns_3 old) (step_rows n graph) (map columns_3 (e.now.trees 6))) before three.change.rows;
-          marks = three.change.others.1.1.1.1.0 (apart 8 6 refl) ∙ two.change.others.1.1.1.1.0 (apart 8 4 refl) ∙ one.change.others.1.1.1.1.0 (apart 8 2 refl);
+          marks = three.change.others.1.1.1.1.0 (eqb-false 8 6 refl) ∙ two.change.others.1.1.1.1.0 (eqb-false 8 4 refl) ∙ one.change.others.1.1.1.1.0 (eqb-false 8 2 refl);
         };
         sound = three.change.sound;
       };
@@ -136,9 +136,6 @@ file_then n d rows graph a b c e one two three =
       is_open = three.is_open;
       committed = three.committed ∙ two.committed ∙ one.committed;
     }
-  where
-    apart : (m n : ℕ) → (m == n) ≡ false → m ≢ n
-    apart m n differ same = absurd (let clash : true ≡ false = sym (eq-eqb m n same) ∙ differ in cc)
 
 -- ---- what a transaction leaves committed
 
@@ -148,14 +145,14 @@ kept_same s = record { was_open = λ o. o; committed = λ o. refl }
 pub kept_then : (a b c : State) → KeepsCommit a b → KeepsCommit b c → KeepsCommit a c
 kept_then a b c one two = record { was_open = λ o. one.was_open (two.was_open o); committed = λ o. two.committed o ∙ one.committed (two.was_open o) }
 
-kept_as : (a b : State) → IsUnchanged a b → KeepsCommit a b
-kept_as a b h = record { was_open = λ o. h.0.was_open; committed = λ o. h.0.committed_is }
+pub kept_either : (a b : State) → IsUnchanged a b ⊎ IsRolledBack a b → KeepsCommit a b
+kept_either a b (inl h) = record { was_open = λ o. h.0.was_open; committed = λ o. h.0.committed_is }
+kept_either a b (inr back) = record { was_open = back.was_open; committed = λ o. (back.undone o).1 }
 
 pub kept_by : (sql : List ℕ) (params : Row) (old new : State) (r : Result ℕ Error) → ExecutesInside 0 sql params old new r → KeepsCommit old new
 kept_by sql params old new (Ok n) h = record { was_open = λ o. h.1.was_open; committed = λ o. h.1.committed_is }
-kept_by sql params old new (Err e) (inl (h, inl same)) = kept_as old new same
-kept_by sql params old new (Err e) (inl (h, inr back)) = record { was_open = back.was_open; committed = λ o. (back.undone o).1 }
-kept_by sql params old new (Err e) (inr h) = kept_as old new h.2
+kept_by sql params old new (Err e) (inl (h, how)) = kept_either old new how
+kept_by sql params old new (Err e) (inr h) = kept_either old new (inl h.2)
 
 pub undone_by : (old mid new : State) → KeepsCommit old mid → IsRolledBack mid new → IsTrue new.is_open → (new.now ≡ old.committed) × (new.committed ≡ old.committed)
 undone_by old mid new kept back o =

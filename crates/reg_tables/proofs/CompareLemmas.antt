@@ -1,8 +1,8 @@
 -- Rows that come one by one, beside a list of rows.
-use Rattle.std.proofs.Common.{◌≡◌, ℕ, zero, suc, ◌+◌, ◌<◌, ◌==◌, ◌&&◌, Bool, true, false, IsTrue, List, [], ◌∷◌, ◌++◌, map, length, take, get_or, append_assoc, append-nil, refl, sym, ap, subst, ◌∙◌, arith}
-use Rattle.std.proofs.Math.Seq.{take-suc}
+use Rattle.std.proofs.Common.{◌≡◌, ℕ, suc, ◌+◌, ◌<◌, ◌==◌, ◌&&◌, Bool, true, false, IsTrue, List, [], ◌∷◌, ◌++◌, map, length, take, get_or, append_assoc, append-nil, refl, sym, ap, subst, ◌∙◌, arith}
+use Rattle.std.proofs.Math.Seq.{get_or-append_seam, take-suc}
 use Rattle.std.proofs.lemmas.Bool.{eq-eqb, eqb-true}
-use Rattle.std.proofs.lemmas.List.{length-map, length-take-le, take_all}
+use Rattle.std.proofs.lemmas.List.{get_or_default, length-append, length-map, length-take-le, take_all}
 use Rattle.sqlite.specs.declared.types.Value.TheVariants.{Int}
 use Rattle.sqlite.specs.Order.{Row}
 use Rattle.sqlite.specs.State.{State, Shown}
@@ -23,30 +23,15 @@ use Rattle.reg_tables.proofs.RowsLemmas.{places_long}
 one_more : (rows more : List Row) (row : Row) → (rows ++ row ∷ []) ++ more ≡ rows ++ row ∷ more
 one_more rows more row = append_assoc rows (row ∷ []) more
 
-other_default : (xs : List Row) (k : ℕ) (d : Row) → k < length xs → get_or xs k d ≡ get_or xs k []
-other_default [] k d low = absurd (omega (arith, low))
-other_default (x ∷ xs) zero d low = refl
-other_default (x ∷ xs) (suc k) d low = other_default xs k d (omega (arith, low))
-
 -- the next row is the next of the list
 pub compares_next : (mine rows : List Row) (row : Row) (at : ℕ) (is : Bool) → at < length mine → get_or mine at [] ≡ row → is ≡ true → Compares mine at is rows → Compares mine (at + 1) is (rows ++ row ∷ [])
 compares_next mine rows row at is low here held was = record {
   yes = λ _.
       (let e : at + 1 ≡ suc at = omega arith in
-      let next : take (at + 1) mine ≡ take at mine ++ row ∷ [] = ap (λ k. take k mine) e ∙ take-suc mine at row low ∙ ap (λ r. take at mine ++ r ∷ []) (other_default mine at row low ∙ here) in
+      let next : take (at + 1) mine ≡ take at mine ++ row ∷ [] = ap (λ k. take k mine) e ∙ take-suc mine at row low ∙ ap (λ r. take at mine ++ r ∷ []) (get_or_default mine at row [] low ∙ here) in
       (omega (arith, low), ap (λ all. all ++ row ∷ []) (was.yes held).1 ∙ sym next));
   no = λ e. absurd (let clash : true ≡ false = sym held ∙ e in cc);
 }
-
-end_of_rows : (rows more : List Row) (row : Row) (k : ℕ) → k ≡ length rows → get_or (rows ++ row ∷ more) k [] ≡ row
-end_of_rows [] more row zero e = refl
-end_of_rows [] more row (suc k) e = absurd (omega (arith, e))
-end_of_rows (x ∷ rows) more row zero e = absurd (omega (arith, e))
-end_of_rows (x ∷ rows) more row (suc k) e = end_of_rows rows more row k (omega (arith, e))
-
-longer : (rows more : List Row) (row : Row) → length rows < length (rows ++ row ∷ more)
-longer [] more row = omega arith
-longer (x ∷ rows) more row = omega (arith, longer rows more row)
 
 -- it is not, or the list has no more
 pub compares_other : (mine rows : List Row) (row : Row) (at : ℕ) (is : Bool) → (at < length mine → get_or mine at [] ≡ row → ⊥) → is ≡ true → Compares mine at is rows → Compares mine at false (rows ++ row ∷ [])
@@ -56,7 +41,8 @@ compares_other mine rows row at is other held was = record {
       (let first = was.yes held in
       let long : at ≡ length rows = sym (ap length first.1 ∙ length-take-le at mine first.0) in
       let all : rows ++ row ∷ more ≡ mine = sym (one_more rows more row) ∙ whole in
-      other (omega (arith, long, longer rows more row, ap length all)) (ap (λ xs. get_or xs at []) (sym all) ∙ end_of_rows rows more row at long));
+      other (omega (arith, long, ap length all, length-append rows (row ∷ more))) (ap (λ xs. get_or xs at []) (sym all)
+      ∙ ap (λ k. get_or (rows ++ row ∷ more) k []) long ∙ get_or-append_seam rows row more []));
 }
 
 -- All came, and no more, where the count is that of the list.

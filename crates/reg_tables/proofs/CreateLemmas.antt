@@ -18,28 +18,27 @@ use Rattle.reg_tables.specs.KeepLaws.{ChangesOf}
 use Rattle.reg_tables.specs.Making.{AreDictionary}
 use Rattle.reg_tables.specs.Creates.{HasFirst, HasFour, IsEmptyRegister, IsNewRegister, MakesWithdrawals}
 use Rattle.reg_tables.specs.Creates.{SurvivesMaking}
-use Rattle.reg_tables.proofs.CreatesLaws.{makes_meta, makes_deposits, makes_lines, makes_steps, makes_withdrawals}
-use Rattle.reg_tables.proofs.CreatesLaws.{all_five, first_two, last_two, filled, new_left}
+use Rattle.reg_tables.proofs.MeaningLaws.{meta_text, deposits_text, lines_text, steps_text, withdrawals_text}
+use Rattle.reg_tables.proofs.CreatesLaws.{makes, first_two, last_two, filled, new_left}
 use Rattle.reg_tables.proofs.ExamineLemmas.{one_dictionary}
 use Rattle.reg_tables.proofs.StoredText.{text_of_meta}
 
 pub first_ran : (a b c : State) → a.now.schema ≡ no_schema → Ran create_meta [] a b → Ran create_deposits [] b c → Inside (λ _ db. HasFirst db) a c
 first_ran a b c has one two =
-    let made = makes_meta a b one.count has one.ran in
-    record { change = first_two a.now b.now c.now made (makes_deposits b c two.count made.schema two.ran); goes_on = two.goes_on; is_open = two.is_open; committed = two.committed ∙ one.committed }
+    let made = makes a b one.count meta_text has one.ran in
+    record { change = first_two a.now b.now c.now made (makes b c two.count deposits_text made.schema two.ran); goes_on = two.goes_on; is_open = two.is_open; committed = two.committed ∙ one.committed }
 
 pub second_ran : (a b c : State) → HasFirst a.now → Ran create_lines [] a b → Ran create_steps [] b c → Inside (λ _ db. HasFour db) a c
 second_ran a b c has one two =
-    let made = makes_lines a b one.count has.schema one.ran in
-    record { change = last_two a.now b.now c.now has made (makes_steps b c two.count made.schema two.ran); goes_on = two.goes_on; is_open = two.is_open; committed = two.committed ∙ one.committed }
+    let made = makes a b one.count lines_text has.schema one.ran in
+    record { change = last_two a.now b.now c.now has made (makes b c two.count steps_text made.schema two.ran); goes_on = two.goes_on; is_open = two.is_open; committed = two.committed ∙ one.committed }
 
 pub third_ran : (a b : State) → a.now.schema ≡ first_schema → Ran create_withdrawals [] a b → Inside MakesWithdrawals a b
-third_ran a b has one = record { change = makes_withdrawals a b one.count has one.ran; goes_on = one.goes_on; is_open = one.is_open; committed = one.committed }
+third_ran a b has one = record { change = makes a b one.count withdrawals_text has one.ran; goes_on = one.goes_on; is_open = one.is_open; committed = one.committed }
 
 pub all_ran : (text : List ℕ) (a b c e f : State) → Inside (λ _ db. HasFirst db) a b → Inside (λ _ db. HasFour db) b c → Inside MakesWithdrawals c e → Ran fill_meta (Bytes text ∷ []) e f → Inside (Makes (λ _ db. IsNewRegister text db)) a f
 all_ran text a b c e f one two three four =
-    let five = all_five c.now e.now two.change three.change in
-    let made = filled text e.now f.now five (fills_meta e f text four.count five.schema four.ran) in
+    let made = filled text c.now e.now f.now two.change three.change (fills_meta e f text four.count three.change.schema four.ran) in
     record {
       change = record { change = made; sound = made.sound };
       goes_on = four.goes_on;

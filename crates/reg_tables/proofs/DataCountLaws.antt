@@ -1,6 +1,7 @@
 -- Lemmas on the definitions of specs/DataCount.antt.
 use Rattle.std.proofs.Common.{◌≡◌, ℕ, suc, ◌+◌, List, [], ◌∷◌, map, filter, length, length-append, Bool, true, false}
 use Rattle.std.proofs.Common.{◌==◌, if◌then◌else◌, refl, sym, ap, ◌∙◌}
+use Rattle.std.proofs.lemmas.List.{length-map}
 use Rattle.std.proofs.lemmas.List.Elements.{filter-append}
 use Rattle.ags_rows.specs.declared.rows.Group.{Group}
 use Rattle.ags_rows.specs.declared.rows.Descriptor.TheVariants as kinds
@@ -19,12 +20,8 @@ data_only : (name : List ℕ) (rows : List (List (List ℕ)))
 data_only name [] = refl
 data_only name (row ∷ rows) = ap suc (data_only name rows)
 
-rows_long : {A B : Type 0} (f : A → B) (rows : List A) → length (map f rows) ≡ length rows
-rows_long f [] = refl
-rows_long f (row ∷ rows) = ap suc (rows_long f rows)
-
 one_group : (group : Contents) → length (filter is_kept_data (group_rows group)) ≡ length (data_of group)
-one_group group = data_only group.name group.rows ∙ sym (rows_long _ group.rows)
+one_group group = data_only group.name group.rows ∙ sym (length-map group.rows _)
 
 pub counted : (groups : List Group)
     → length (filter is_kept_data (kept_rows groups)) ≡ length (data_rows (contents_of groups))

@@ -40,14 +40,14 @@ use Rattle.reg_tables.specs.Methods.{HoldsLines, HoldsSteps}
 use Rattle.reg_tables.proofs.MethodsLaws.{same_deposit}
 use Rattle.reg_tables.proofs.RepeatsLemmas.{false_if, same_digest}
 use Rattle.reg_tables.specs.declared.error.AdoptError.{AdoptError}
-use Rattle.reg_tables.specs.declared.error.AdoptError.TheVariants.{NotRegister, Version, Store, NoMemory}
+use Rattle.reg_tables.specs.declared.error.AdoptError.TheVariants.{NotRegister, Version, NoMemory}
 use Rattle.reg_tables.specs.Formats.{IsFormatRow}
 use Rattle.reg_tables.specs.Adoption.{Adopts, CountsDeposits, Examines, HasNoOtherFormat, MetaOf, ReadsMeta}
 use Rattle.reg_tables.proofs.RowsLemmas.{numbers_long}
 use Rattle.reg_tables.specs.Adopts.{id_of, number_rows}
 use Rattle.reg_tables.specs.Whole.{AreWhole, Counts, HasMeta, HoldsBody, IsWhole, Tests}
 use Rattle.reg_tables.proofs.WholeLaws.{adopts_whole, of_all, whole_at}
-use Rattle.reg_tables.proofs.FormatLemmas.{tables_first}
+use Rattle.reg_tables.proofs.TablesLemmas.{tables_first}
 
 -- the rows that are shown are the table's, and are these where the table holds these
 pub tests_rows : (is : Bool) (rows mine table : List Row) → (IsTrue is → rows ≡ mine) × (rows ≡ mine → IsTrue is) → IsPermutation rows table → (IsPermutation mine table → rows ≡ mine) → Tests is (IsPermutation mine table)
@@ -214,11 +214,9 @@ meta_reads number (Err NotRegister) rows text same formats read refused named = 
       (let one = one_text number rows text reads.0 same reads.1 in
       refused refl dictionary (subst (λ (t : List ℕ). length t ≤ READABLE) one reads.2) (subst (λ (t : List ℕ). IsDictionary t dictionary) one reads.3)),
 )
-meta_reads number (Err (Version n)) rows text same formats read refused (inl e) = absurd cc
-meta_reads number (Err (Version n)) rows text same formats read refused (inr e) = absurd cc
-meta_reads number (Err Store) rows text same formats read refused (inl e) = absurd cc
-meta_reads number (Err Store) rows text same formats read refused (inr e) = absurd cc
 meta_reads number (Err NoMemory) rows text same formats read refused named = tt
+meta_reads number (Err x) rows text same formats read refused (inl e) = absurd cc
+meta_reads number (Err x) rows text same formats read refused (inr e) = absurd cc
 
 pub meta_of : (number : ℕ) (r : Result Entries AdoptError) (db : Database) (rows : List Row) → HasTables db.schema → IsPermutation rows (map columns_3 (db.trees 0)) → AreMetaByName db rows
     → ReadsMeta number rows r → MetaOf number db r
@@ -226,8 +224,7 @@ meta_of number (Ok dictionary) db rows schema all found reads = record { text = 
 meta_of number (Err (Version n)) db rows schema all found reads = (reads.0, (tables_first db.schema schema, (reads.1.0, Contains-permutation _ _ _ all reads.1.1, reads.1.2)))
 meta_of number (Err NotRegister) db rows schema all found reads =
     (λ n has. reads.0 n (has.1.0, Contains-permutation _ _ _ (IsPermutation-sym _ _ all) has.1.1, has.1.2), λ dictionary meta. reads.1 dictionary (meta.text, found number meta.text meta.meta, meta.short, meta.reads))
-meta_of number (Err Store) db rows schema all found reads = tt
-meta_of number (Err NoMemory) db rows schema all found reads = tt
+meta_of number (Err e) db rows schema all found reads = tt
 
 pub register_meta : (format : Format) (db : Database) (dictionary : Entries) (list : List Sent) → HoldsSent format db dictionary list → HasMeta (format_number format) db dictionary
 register_meta format db dictionary list r = record { text = r.text; short = r.short; reads = r.reads; meta = r.meta }
@@ -256,8 +253,7 @@ meta_examines format (Err x) db e same meta = go e (subst (λ (y : AdoptError). 
     go : (y : AdoptError) → MetaOf (format_number format) db (Err y) → Examines format db (Err y)
     go (Version n) m = m
     go NotRegister m = (m.0, λ dictionary list r. m.1 dictionary (register_meta format db dictionary list r))
-    go Store m = tt
-    go NoMemory m = tt
+    go y m = tt
 
 -- a row of meta is one of the two
 two_rows : (number : ℕ) (text : List ℕ) (row : Row) → Contains (meta_columns number text) row → (row ≡ dictionary_row text) ⊎ (row ≡ format_row number)
@@ -294,5 +290,4 @@ none_examines format db dictionary meta none = (
 pub refused_sent : (format : Format) (db : Database) (e : AdoptError) → Examines format db (Err e) → Adopts format db (Err e)
 refused_sent format db (Version n) h = h
 refused_sent format db NotRegister h = (h.0, λ dictionary list r. h.1 dictionary (sents list) r.holds)
-refused_sent format db Store h = tt
-refused_sent format db NoMemory h = tt
+refused_sent format db e h = tt

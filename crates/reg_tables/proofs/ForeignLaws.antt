@@ -4,14 +4,14 @@ use Rattle.std.proofs.Common.{◌||◌, if◌then◌else◌, refl, sym, ap, ◌�
 use Rattle.std.specs.List.{AllByRecursion, list_any}
 use Rattle.std.specs.Ordering.{is_eq}
 use Rattle.sqlite.specs.declared.types.Value.{Value}
-use Rattle.sqlite.specs.declared.types.Value.TheVariants.{Null, Int, Real, Text as Words, Blob as Bytes}
+use Rattle.sqlite.specs.declared.types.Value.TheVariants.{Null, Int}
 use Rattle.sqlite.specs.Order.{Row, column, value_cmp}
 use Rattle.sqlite.specs.Tree.{Trees}
 use Rattle.sqlite.specs.Collation.TheVariants.{Binary}
 use Rattle.sqlite.specs.Ops.{is_null, binary}
 use Rattle.sqlite_catalog.specs.Listing.{IsSound}
 use Rattle.sqlite_schema.specs.declared.schema.Constraint.TheVariants.{ForeignKey}
-use Rattle.sqlite_schema.specs.Rules.{equal, passes}
+use Rattle.sqlite_schema.specs.Rules.{equal}
 use Rattle.sqlite_schema.specs.Names.{same_name}
 use Rattle.sqlite_value.specs.Keys.{first_key, joined}
 use Rattle.sqlite_value.proofs.OrderLemmas.{value_cmp_total}
@@ -19,67 +19,32 @@ use Rattle.reg_tables.specs.declared.schema.format.Format.{Format}
 use Rattle.reg_tables.specs.declared.schema.format.Format.TheVariants.{First, Second}
 use Rattle.reg_tables.proofs.ReadsLaws.{equal_order, truth_is}
 use Rattle.reg_tables.specs.Register.{has_number}
-use Rattle.reg_tables.specs.Rows.{columns_3, columns_5, deposit_table, is_of, rows_under}
-use Rattle.reg_tables.specs.Tables.{lines, steps, register_schema, schema_of}
+use Rattle.reg_tables.specs.Rows.{columns_5, deposit_table, is_of, rows_under}
+use Rattle.reg_tables.specs.Tables.{schema_of}
 
--- a row of lines has a row of deposits with its number
-pub has_deposit : (trees : Trees) (r : Row) → passes ForeignKey register_schema trees lines r ≡ true → (((is_null
-    (column r 1) || false) || list_any (λ p. equal Binary (column p 1) (column r 1) && true) (trees 2)) && true) ≡ true
-unfolding same_name first_key joined
-has_deposit trees r h = h
-
--- a row of steps has a row of deposits with its number
-pub step_has_deposit : (trees : Trees) (r : Row) → passes ForeignKey register_schema trees steps r ≡ true → (((is_null
-    (column r 1) || false) || list_any (λ p. equal Binary (column p 1) (column r 1) && true) (trees 2)) && true) ≡ true
-unfolding same_name first_key joined
-step_has_deposit trees r h = h
+-- the row has a row of deposits with its number
+abbrev HasDeposit : Trees → Row → Type 0
+HasDeposit trees r = (((is_null (column r 1) || false) || list_any (λ p. equal Binary (column p 1) (column r 1) && true) (trees 2)) && true) ≡ true
 
 not_null : (v : Value) (n : ℕ) → is_eq (value_cmp v (Int (pos n))) ≡ true → is_null v ≡ false
 unfolding value_cmp
 not_null Null n h = absurd cc
-not_null (Int m) n h = refl
-not_null (Real x) n h = refl
-not_null (Words t) n h = refl
-not_null (Bytes b) n h = refl
+not_null v n h = refl
 
 eq_both : (u v : Value) → is_null u ≡ false → is_null v ≡ false → equal Binary u v ≡ is_eq (value_cmp u v)
 unfolding binary
 eq_both Null v p q = absurd cc
-eq_both (Int a) Null p q = absurd cc
-eq_both (Int a) (Int b) p q = truth_is _
-eq_both (Int a) (Real b) p q = truth_is _
-eq_both (Int a) (Words b) p q = truth_is _
-eq_both (Int a) (Bytes b) p q = truth_is _
-eq_both (Real a) Null p q = absurd cc
-eq_both (Real a) (Int b) p q = truth_is _
-eq_both (Real a) (Real b) p q = truth_is _
-eq_both (Real a) (Words b) p q = truth_is _
-eq_both (Real a) (Bytes b) p q = truth_is _
-eq_both (Words a) Null p q = absurd cc
-eq_both (Words a) (Int b) p q = truth_is _
-eq_both (Words a) (Real b) p q = truth_is _
-eq_both (Words a) (Words b) p q = truth_is _
-eq_both (Words a) (Bytes b) p q = truth_is _
-eq_both (Bytes a) Null p q = absurd cc
-eq_both (Bytes a) (Int b) p q = truth_is _
-eq_both (Bytes a) (Real b) p q = truth_is _
-eq_both (Bytes a) (Words b) p q = truth_is _
-eq_both (Bytes a) (Bytes b) p q = truth_is _
+eq_both u Null p q = absurd cc
+eq_both u v p q = truth_is _
 
 null_left : (v : Value) → equal Binary Null v ≡ false
 unfolding binary
 null_left Null = refl
-null_left (Int b) = refl
-null_left (Real b) = refl
-null_left (Words b) = refl
-null_left (Bytes b) = refl
+null_left v = refl
 
 is_null_or : (u : Value) → (u ≡ Null) ⊎ (is_null u ≡ false)
 is_null_or Null = inl refl
-is_null_or (Int a) = inr refl
-is_null_or (Real a) = inr refl
-is_null_or (Words a) = inr refl
-is_null_or (Bytes a) = inr refl
+is_null_or u = inr refl
 
 -- a value that does not equal n is not equal to one that does
 apart_from : (u v : Value) (n : ℕ) → is_eq (value_cmp v (Int (pos n))) ≡ true
@@ -107,42 +72,29 @@ no_parent n v (p ∷ rows) is none = go (no_parent n v rows is) (has_number n (c
     go more true e h = absurd cc
     go more false e h = rw (apart_from (column p 1) v n is e) (more h)
 
--- where no row that is keyed is of the number, no row of the table is
-no_under : (see : Row → Row) (Keyed : Row → Type 0) (n : ℕ) → ((r : Row) → is_of n (see r) ≡ true → Keyed r → ⊥)
-    → (rows : List Row) → AllByRecursion Keyed rows → rows_under n (map see rows) ≡ []
-no_under see Keyed n none [] keyed = refl
-no_under see Keyed n none (r ∷ rows) keyed = go (no_under see Keyed n none rows keyed.1) (is_of n (see r)) refl
+-- where each row has its row of deposits, no row is of a number that no deposit has
+pub no_rows : (see : Row → Row) (trees : Trees) (n : ℕ) → ((r : Row) → is_of n (see r) ≡ is_eq (value_cmp (column r 1) (Int (pos n))))
+    → filter (has_number n) (deposit_table trees) ≡ [] → (rows : List Row) → AllByRecursion (HasDeposit trees) rows
+    → rows_under n (map see rows) ≡ []
+no_rows see trees n same none [] keyed = refl
+no_rows see trees n same none (r ∷ rows) keyed = go (is_of n (see r)) refl (no_rows see trees n same none rows keyed.1)
   where
-    go : rows_under n (map see rows) ≡ [] → (b : Bool) → is_of n (see r) ≡ b
+    go : (b : Bool) → is_of n (see r) ≡ b → rows_under n (map see rows) ≡ []
         → map (drop 1) (if b then see r ∷ filter (is_of n) (map see rows) else filter (is_of n) (map see rows)) ≡ []
-    go more true e = absurd (none r e keyed.0)
-    go more false e = more
-
--- no row of lines has a number that no deposit has
-pub no_lines : (trees : Trees) (n : ℕ) (rows : List Row) → filter (has_number n) (deposit_table trees) ≡ []
-    → AllByRecursion (λ r. passes ForeignKey register_schema trees lines r ≡ true) rows
-    → rows_under n (map columns_5 rows) ≡ []
-no_lines trees n rows none = no_under columns_5 (λ r. passes ForeignKey register_schema trees lines r ≡ true) n
-    (λ r e keyed. (let held = rw (not_null (column r 1) n e, no_parent n (column r 1) (trees 2) e none) at
-    (has_deposit trees r keyed) in cc)) rows
-
--- no row of steps has a number that no deposit has
-pub no_steps : (trees : Trees) (n : ℕ) (rows : List Row) → filter (has_number n) (deposit_table trees) ≡ []
-    → AllByRecursion (λ r. passes ForeignKey register_schema trees steps r ≡ true) rows
-    → rows_under n (map columns_3 rows) ≡ []
-no_steps trees n rows none = no_under columns_3 (λ r. passes ForeignKey register_schema trees steps r ≡ true) n
-    (λ r e keyed. (let held = rw (not_null (column r 1) n e, no_parent n (column r 1) (trees 2) e none) at
-    (step_has_deposit trees r keyed) in cc)) rows
+    go true e more =
+        let its = sym (same r) ∙ e in
+        absurd (let held = rw (not_null (column r 1) n its, no_parent n (column r 1) (trees 2) its none) at keyed.0 in cc)
+    go false e more = more
 
 -- the rows of lines, and those of steps, have their rows of deposits, in either format
 pub keyed_lines : (format : Format) (trees : Trees) → IsSound (schema_of format) trees
-    → AllByRecursion (λ r. passes ForeignKey register_schema trees lines r ≡ true) (trees 4)
+    → AllByRecursion (HasDeposit trees) (trees 4)
 unfolding same_name first_key joined
 keyed_lines First trees sound = (sound.obeys.rules ForeignKey).1.1.0
 keyed_lines Second trees sound = (sound.obeys.rules ForeignKey).1.1.0
 
 pub keyed_steps : (format : Format) (trees : Trees) → IsSound (schema_of format) trees
-    → AllByRecursion (λ r. passes ForeignKey register_schema trees steps r ≡ true) (trees 6)
+    → AllByRecursion (HasDeposit trees) (trees 6)
 unfolding same_name first_key joined
 keyed_steps First trees sound = (sound.obeys.rules ForeignKey).1.1.1.0
 keyed_steps Second trees sound = (sound.obeys.rules ForeignKey).1.1.1.0

@@ -1,5 +1,5 @@
 -- The heads of a register's deposits, as they are read, grow and are looked up.
-use Rattle.std.proofs.Common.{◌≡◌, ℕ, zero, suc, ◌+◌, ◌-◌, ◌<◌, List, [], ◌∷◌, ◌++◌, map, take, length, Some, slice_get, refl, sym, ap, subst, ◌∙◌, arith}
+use Rattle.std.proofs.Common.{◌≡◌, ℕ, zero, suc, ◌+◌, ◌-◌, ◌<◌, List, [], ◌∷◌, ◌++◌, map, take, length, Some, slice_get, sym, ap, subst, ◌∙◌, arith}
 use Rattle.std.specs.List.Sorted.{IsPermutation}
 use Rattle.std.proofs.lemmas.List.{map-append}
 use Rattle.sqlite.specs.Effect.{Database}
@@ -22,12 +22,6 @@ taken : {X : Type 0} (xs : List X) (k : ℕ) (x : X) → slice_get xs k ≡ Some
 taken [] k x at = absurd cc
 taken (y ∷ xs) zero x at = let same : y ≡ x = cc in ap (λ z. z ∷ []) same
 taken (y ∷ xs) (suc k) x at = ap (λ all. y ∷ all) (taken xs k x at)
-
-pub taken_all : {X : Type 0} (xs : List X) (k : ℕ) → length xs ≡ k → take k xs ≡ xs
-taken_all [] zero e = refl
-taken_all [] (suc k) e = refl
-taken_all (x ∷ xs) zero e = absurd (omega (arith, e))
-taken_all (x ∷ xs) (suc k) e = ap (λ all. x ∷ all) (taken_all xs k (omega (arith, e)))
 
 -- the heads of the first deposits, and that of the next
 pub heads_read : (db : Database) (heads : List KeptHead) (head : KeptHead) (k : ℕ) (list : List Sent) → AreHeads heads (take k list) → ((d : Sent) → IsRowOf db (k + 1) d → head ≡ head_of d) → IsPermutation (deposit_rows 1 list) (deposit_table db.trees) → k < length list

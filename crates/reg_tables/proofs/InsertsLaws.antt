@@ -1,5 +1,5 @@
 -- Lemmas on the definitions of specs/Inserts.antt.
-use Rattle.std.proofs.Common.{◌≡◌, ◌≢◌, ◌⊎◌, inl, inr, ℕ, ◌+◌, ◌/◌, drop, pos, List, [], ◌∷◌, ◌++◌, map, length, Option}
+use Rattle.std.proofs.Common.{◌≡◌, ◌≢◌, ◌⊎◌, inl, inr, ℕ, ◌+◌, ◌/◌, drop, pos, List, [], ◌∷◌, ◌++◌, map, length}
 use Rattle.std.proofs.Common.{Some, None, slice_get, Ok, Err, Result, refl, sym, ap, subst, ◌∙◌, arith}
 use Rattle.std.specs.List.{AllByRecursion}
 use Rattle.std.specs.List.Sorted.{IsPermutation}
@@ -17,10 +17,7 @@ use Rattle.sqlite.specs.Tree.{Trees}
 use Rattle.sqlite_rules.specs.Cast.{cast_row}
 use Rattle.sqlite_rules.specs.Edit.{put_all}
 use Rattle.sqlite_rules.specs.Action.{works}
-use Rattle.sqlite_schema.specs.declared.schema.Column.{Column}
-use Rattle.sqlite_schema.specs.declared.schema.Reference.{Reference}
 use Rattle.sqlite_schema.specs.declared.schema.Table.{Table}
-use Rattle.sqlite_value.specs.declared.keys.Order.{Order}
 use Rattle.sqlite_rules.specs.Action as action
 use Rattle.sqlite_schema.specs.declared.schema.Keys.TheVariants.{Enforced}
 use Rattle.sqlite.specs.Listing.{understood}
@@ -31,7 +28,7 @@ use Rattle.reg_store.specs.Sent.{Sent}
 use Rattle.reg_tables.specs.Tables.{simple, meta, deposits, lines, steps, withdrawals, register_schema}
 use Rattle.reg_tables.proofs.Texts.{insert_deposit, insert_line, insert_step, insert_mark, insert_eight_lines}
 use Rattle.reg_tables.proofs.Texts.{insert_eight_steps, fill_meta}
-use Rattle.reg_tables.proofs.MeaningLaws.{InsertsInto, deposit_terms, deposit_is, line_terms, line_is, step_terms}
+use Rattle.reg_tables.proofs.MeaningLaws.{InsertsInto, row_terms, deposit_is, line_is, step_terms}
 use Rattle.reg_tables.proofs.MeaningLaws.{step_is, mark_terms, mark_is, eight_line_terms, eight_lines_are}
 use Rattle.reg_tables.proofs.MeaningLaws.{eight_step_terms, eight_steps_are, fill_terms, fill_is}
 use Rattle.reg_tables.specs.Rows.{columns_5, columns_3, joined, line_row, line_rows, step_row, step_rows, given_deposit}
@@ -79,31 +76,21 @@ IsLone table width terms params =
 by_eight : {X : Type 0} (P : List X → Type 0) → ((a b c d e f g i : X) → P (a ∷ b ∷ c ∷ d ∷ e ∷ f ∷ g ∷ i ∷ []))
     → (xs : List X) → length xs ≡ 8 → P xs
 by_eight P all (a ∷ b ∷ c ∷ d ∷ e ∷ f ∷ g ∷ i ∷ []) eight = all a b c d e f g i
-by_eight P all [] eight = absurd (omega arith)
-by_eight P all (a ∷ []) eight = absurd (omega arith)
-by_eight P all (a ∷ b ∷ []) eight = absurd (omega arith)
-by_eight P all (a ∷ b ∷ c ∷ []) eight = absurd (omega arith)
-by_eight P all (a ∷ b ∷ c ∷ d ∷ []) eight = absurd (omega arith)
-by_eight P all (a ∷ b ∷ c ∷ d ∷ e ∷ []) eight = absurd (omega arith)
-by_eight P all (a ∷ b ∷ c ∷ d ∷ e ∷ f ∷ []) eight = absurd (omega arith)
-by_eight P all (a ∷ b ∷ c ∷ d ∷ e ∷ f ∷ g ∷ []) eight = absurd (omega arith)
-by_eight P all (a ∷ b ∷ c ∷ d ∷ e ∷ f ∷ g ∷ i ∷ j ∷ more) eight = absurd (omega arith)
+by_eight P all xs eight = absurd (omega arith)
+
+-- the table of these parts, which has no others
+abbrev made_of : Table → Table
+made_of t = simple t.name t.tree t.columns t.key t.primary t.uniques t.orders t.references
 
 -- What an insert puts in a table, where no foreign key acts on it.
-puts : (at : ℕ) (name : List ℕ) (tree : ℕ) (columns : List Column) (alias : Option ℕ) (key : List ℕ)
-    (uniques : List (List ℕ)) (orders : List Order) (references : List Reference)
-    → slice_get register_schema.tables at ≡ Some (simple name tree columns alias key uniques orders references)
-    → (see : Row → Row) (width : ℕ) (sql : List ℕ) (terms : List Term)
-    → InsertsInto at terms width sql → (params : Row)
-    → IsLone (simple name tree columns alias key uniques orders references) width terms params
-    → AreSeen see (taken_as (simple name tree columns alias key uniques orders references) width terms params)
-    → (more : List Row)
-    → map see (taken_as (simple name tree columns alias key uniques orders references) width terms params) ≡ more
+puts : (at : ℕ) (t : Table) → slice_get register_schema.tables at ≡ Some (made_of t) → (see : Row → Row) (width : ℕ) (sql : List ℕ)
+    (terms : List Term) → InsertsInto at terms width sql → (params : Row) → IsLone (made_of t) width terms params
+    → AreSeen see (taken_as (made_of t) width terms params) → (more : List Row) → map see (taken_as (made_of t) width terms params) ≡ more
     → (old new : State) (count : ℕ) → old.now.schema ≡ register_schema → Executes sql params old new (Ok count)
-    → AddsTo tree see more old.now new.now
-puts at name tree columns alias key uniques orders references here see width sql terms means params lone same_seen
-    more seen_as old new count has h =
-    let table = simple name tree columns alias key uniques orders references in
+    → AddsTo t.tree see more old.now new.now
+puts at t here see width sql terms means params lone same_seen more seen_as old new count has h =
+    let table = made_of t in
+    let tree = t.tree in
     let db = old.now.trees in
     let command = Insert at (Values terms width) in
     let w = runs_as sql params old new register_schema has command means.0 means.1 count h in
@@ -141,40 +128,27 @@ puts at name tree columns alias key uniques orders references here see width sql
           (sym same) step.tables;
     }
 
-puts_lines : (sql : List ℕ) (terms : List Term)
-    → InsertsInto 2 terms 6 sql → (params : Row) → IsLone lines 6 terms params → (more : List Row)
-    → map columns_5 (taken_as lines 6 terms params) ≡ more
+-- the same, where the rows are seen without their rowids
+puts_blind : (at : ℕ) (t : Table) → slice_get register_schema.tables at ≡ Some (made_of t) → (see : Row → Row) → IsBlind see
+    → (width : ℕ) (sql : List ℕ) (terms : List Term) → InsertsInto at terms width sql → (params : Row)
+    → IsLone (made_of t) width terms params → (more : List Row) → map see (taken_as (made_of t) width terms params) ≡ more
     → (old new : State) (count : ℕ) → old.now.schema ≡ register_schema → Executes sql params old new (Ok count)
-    → AddsLines more old.now new.now
-puts_lines sql terms means params lone =
-    puts 2 lines.name lines.tree lines.columns lines.key lines.primary lines.uniques lines.orders lines.references refl
-    columns_5 6 sql terms means params lone (seen_blind columns_5 columns_5_blind _)
+    → AddsTo t.tree see more old.now new.now
+puts_blind at t here see blind width sql terms means params lone =
+    puts at t here see width sql terms means params lone (seen_blind see blind (taken_as (made_of t) width terms params))
 
-puts_steps : (sql : List ℕ) (terms : List Term)
-    → InsertsInto 3 terms 4 sql → (params : Row) → IsLone steps 4 terms params → (more : List Row)
-    → map columns_3 (taken_as steps 4 terms params) ≡ more
-    → (old new : State) (count : ℕ) → old.now.schema ≡ register_schema → Executes sql params old new (Ok count)
-    → AddsSteps more old.now new.now
-puts_steps sql terms means params lone =
-    puts 3 steps.name steps.tree steps.columns steps.key steps.primary steps.uniques steps.orders steps.references refl
-    columns_3 4 sql terms means params lone (seen_blind columns_3 columns_3_blind _)
-
--- a row of a file, as the table takes it
-line_taken : (n at : ℕ) (row : KeptRow) → columns_5 (cast_row lines (Null ∷ line_row n at row)) ≡ line_row n at row
-line_taken n at row = rw (cast_int (pos n), cast_int (pos at), cast_int (pos row.kind))
-
+-- rows of a file, as the table takes them
 lines_taken : (n at : ℕ) (rows : List KeptRow) → map columns_5
     (map (λ row. cast_row lines (drop 0 row)) (map (λ row. Null ∷ row) (line_rows n at rows))) ≡ line_rows n at rows
 lines_taken n at [] = refl
-lines_taken n at (row ∷ rows) = ap (λ x. x ∷ map columns_5
-    (map (λ r. cast_row lines (drop 0 r)) (map (λ r. Null ∷ r) (line_rows n (at + 1) rows)))) (line_taken n at row)
-    ∙ ap (λ xs. line_row n at row ∷ xs) (lines_taken n (at + 1) rows)
+lines_taken n at (row ∷ rows) = rw (cast_int (pos n), cast_int (pos at), cast_int (pos row.kind))
+    (ap (λ xs. line_row n at row ∷ xs) (lines_taken n (at + 1) rows))
 
 pub puts_line : (old new : State) (n at : ℕ) (row : KeptRow) (count : ℕ) → old.now.schema ≡ register_schema
     → Executes insert_line (line_row n at row) old new (Ok count) → AddsLines (line_row n at row ∷ []) old.now new.now
-puts_line old new n at row count has h =
-    puts_lines insert_line line_terms line_is (line_row n at row) (λ db. refl) (line_row n at row ∷ [])
-    (lines_taken n at (row ∷ [])) old new count has h
+puts_line old new n at row =
+    puts_blind 2 lines refl columns_5 columns_5_blind 6 insert_line row_terms line_is (line_row n at row) (λ db. refl)
+    (line_row n at row ∷ []) (lines_taken n at (row ∷ [])) old new
 
 pub puts_eight_lines : (old new : State) (n at : ℕ) (rows : List KeptRow) (count : ℕ) → length rows ≡ 8
     → old.now.schema ≡ register_schema → Executes insert_eight_lines (joined (line_rows n at rows)) old new (Ok count)
@@ -183,26 +157,22 @@ puts_eight_lines old new n at rows count eight has = by_eight (λ all. Executes 
     (joined (line_rows n at all)) old new (Ok count) → AddsLines (line_rows n at all) old.now new.now)
     (λ a b c d e f g i.
     let all = a ∷ b ∷ c ∷ d ∷ e ∷ f ∷ g ∷ i ∷ [] in
-    puts_lines insert_eight_lines eight_line_terms eight_lines_are (joined (line_rows n at all))
+    puts_blind 2 lines refl columns_5 columns_5_blind 6 insert_eight_lines eight_line_terms eight_lines_are (joined (line_rows n at all))
     (λ db. refl) (line_rows n at all) (lines_taken n at all) old new count has)
     rows eight
 
--- a step, as the table takes it
-step_taken : (n : ℕ) (step : ℕ × ℕ) → columns_3 (cast_row steps (Null ∷ step_row n step)) ≡ step_row n step
-step_taken n step = rw (cast_int (pos n), cast_int (pos step.0), cast_int (pos step.1))
-
+-- steps, as the table takes them
 steps_taken : (n : ℕ) (graph : List (ℕ × ℕ)) → map columns_3
     (map (λ row. cast_row steps (drop 0 row)) (map (λ row. Null ∷ row) (step_rows n graph))) ≡ step_rows n graph
 steps_taken n [] = refl
-steps_taken n (step ∷ graph) = ap (λ x. x ∷ map columns_3
-    (map (λ r. cast_row steps (drop 0 r)) (map (λ r. Null ∷ r) (step_rows n graph)))) (step_taken n step)
-    ∙ ap (λ xs. step_row n step ∷ xs) (steps_taken n graph)
+steps_taken n (step ∷ graph) = rw (cast_int (pos n), cast_int (pos step.0), cast_int (pos step.1))
+    (ap (λ xs. step_row n step ∷ xs) (steps_taken n graph))
 
 pub puts_step : (old new : State) (n : ℕ) (step : ℕ × ℕ) (count : ℕ) → old.now.schema ≡ register_schema
     → Executes insert_step (step_row n step) old new (Ok count) → AddsSteps (step_row n step ∷ []) old.now new.now
-puts_step old new n step count has h =
-    puts_steps insert_step step_terms step_is (step_row n step) (λ db. refl) (step_row n step ∷ [])
-    (steps_taken n (step ∷ [])) old new count has h
+puts_step old new n step =
+    puts_blind 3 steps refl columns_3 columns_3_blind 4 insert_step step_terms step_is (step_row n step) (λ db. refl)
+    (step_row n step ∷ []) (steps_taken n (step ∷ [])) old new
 
 pub puts_eight_steps : (old new : State) (n : ℕ) (graph : List (ℕ × ℕ)) (count : ℕ) → length graph ≡ 8
     → old.now.schema ≡ register_schema → Executes insert_eight_steps (joined (step_rows n graph)) old new (Ok count)
@@ -211,7 +181,7 @@ puts_eight_steps old new n graph count eight has = by_eight (λ all. Executes in
     (joined (step_rows n all)) old new (Ok count) → AddsSteps (step_rows n all) old.now new.now)
     (λ a b c d e f g i.
     let all = a ∷ b ∷ c ∷ d ∷ e ∷ f ∷ g ∷ i ∷ [] in
-    puts_steps insert_eight_steps eight_step_terms eight_steps_are (joined (step_rows n all))
+    puts_blind 3 steps refl columns_3 columns_3_blind 4 insert_eight_steps eight_step_terms eight_steps_are (joined (step_rows n all))
     (λ db. refl) (step_rows n all) (steps_taken n all) old new count has)
     graph eight
 
@@ -221,11 +191,9 @@ deposit_taken n d = rw (cast_int (pos n), cast_int d.embargo) refl
 
 pub puts_deposit : (old new : State) (n : ℕ) (d : Sent) (count : ℕ) → old.now.schema ≡ register_schema
     → Executes insert_deposit (given_deposit n d) old new (Ok count) → AddsDeposit n d old.now new.now
-puts_deposit old new n d count =
-    puts 1 deposits.name deposits.tree deposits.columns deposits.key deposits.primary deposits.uniques deposits.orders
-    deposits.references refl columns_5 6 insert_deposit deposit_terms deposit_is
-    (given_deposit n d) (λ db. refl) (seen_blind columns_5 columns_5_blind
-    (taken_as deposits 6 deposit_terms (given_deposit n d))) (given_deposit n d ∷ []) (deposit_taken n d) old new count
+puts_deposit old new n d =
+    puts_blind 1 deposits refl columns_5 columns_5_blind 6 insert_deposit row_terms deposit_is (given_deposit n d) (λ db. refl)
+    (given_deposit n d ∷ []) (deposit_taken n d) old new
 
 meta_taken : (dictionary : List ℕ)
     → map columns_3 (taken_as meta 4 fill_terms (Bytes dictionary ∷ [])) ≡ meta_rows 2 dictionary
@@ -233,11 +201,9 @@ meta_taken dictionary = rw (cast_int (pos 2), cast_int (pos 0)) refl
 
 pub fills_meta : (old new : State) (dictionary : List ℕ) (count : ℕ) → old.now.schema ≡ register_schema
     → Executes fill_meta (Bytes dictionary ∷ []) old new (Ok count) → FillsMeta dictionary old.now new.now
-fills_meta old new dictionary count =
-    puts 0 meta.name meta.tree meta.columns meta.key meta.primary meta.uniques meta.orders meta.references refl
-    columns_3 4 fill_meta fill_terms fill_is
-    (Bytes dictionary ∷ []) (λ db. refl) (seen_blind columns_3 columns_3_blind
-    (taken_as meta 4 fill_terms (Bytes dictionary ∷ []))) (meta_rows 2 dictionary) (meta_taken dictionary) old new count
+fills_meta old new dictionary =
+    puts_blind 0 meta refl columns_3 columns_3_blind 4 fill_meta fill_terms fill_is (Bytes dictionary ∷ []) (λ db. refl)
+    (meta_rows 2 dictionary) (meta_taken dictionary) old new
 
 -- the number is that of the row itself
 mark_taken : (n : ℕ) → map mark_column (taken_as withdrawals 2 mark_terms (mark_row n)) ≡ mark_row n ∷ []
@@ -248,7 +214,6 @@ mark_seen n = rw (cast_int (pos n)) ((λ rows. refl), tt)
 
 pub puts_mark : (old new : State) (n : ℕ) (count : ℕ) → old.now.schema ≡ register_schema
     → Executes insert_mark (mark_row n) old new (Ok count) → AddsMark n old.now new.now
-puts_mark old new n count =
-    puts 4 withdrawals.name withdrawals.tree withdrawals.columns withdrawals.key withdrawals.primary withdrawals.uniques
-    withdrawals.orders withdrawals.references refl mark_column 2 insert_mark mark_terms mark_is
-    (mark_row n) (λ db. refl) (mark_seen n) (mark_row n ∷ []) (mark_taken n) old new count
+puts_mark old new n =
+    puts 4 withdrawals refl mark_column 2 insert_mark mark_terms mark_is (mark_row n) (λ db. refl) (mark_seen n)
+    (mark_row n ∷ []) (mark_taken n) old new

@@ -7,6 +7,7 @@ use Rattle.sqlite_trees.specs.Props.{Trees-set}
 use Rattle.sqlite.specs.Schema.{Schema}
 use Rattle.sqlite_schema.specs.contracts.schema.Schema.{the_row}
 use Rattle.std.specs.Coded.{Coded-set}
+use Rattle.sqlite.specs.Tree.{Trees}
 use Rattle.sqlite.specs.Effect.{Database, IsDatabase}
 use Rattle.sqlite.specs.State.{State, Survives, HasCleanDisk}
 use Rattle.ags_dict.specs.Entries.{Entries}
@@ -24,6 +25,7 @@ use Rattle.reg_tables.proofs.RegisterLaws.{IsReady}
 use Rattle.reg_tables.specs.ReadBack.{read_back}
 use Rattle.reg_tables.proofs.ReadBackLaws.{register_mark, register_push}
 use Rattle.reg_tables.specs.Quiet.{IsIdle, IsStill}
+use Rattle.reg_tables.proofs.AddsLemmas.{opened_at}
 use Rattle.reg_tables.proofs.QuietLaws.{clean_before}
 use Rattle.reg_tables.proofs.TablesLemmas.{register_tables}
 use Rattle.reg_tables.specs.KeepLaws.{under_schema, ChangesOf}
@@ -174,27 +176,18 @@ idle_at s idle kept = record {
   settled = λ clean _. settled_of (kept clean);
 }
 
-still_open : {s : State} {dictionary : Entries} {count : ℕ} {now : Bool} → ∥ KeepsRegister s dictionary count ∥₁
-    → now ≡ s.is_open → IsTrue now
-still_open {s} {dictionary} {count} kept same =
-    subst IsTrue (sym same) (∥∥₁_elim kept (Prim.hlevel props) (λ (k : KeepsRegister s dictionary count). k.is_open))
-
 pub keeps_quiet : (old new : State) {dictionary : Entries} {count : ℕ} {failed : Bool}
     → (HasCleanDisk old → ∥ KeepsRegister old dictionary count ∥₁) → IsStill old new failed → HasCleanDisk new
     → failed ≡ false → ∥ KeepsRegister new dictionary count ∥₁
 keeps_quiet old new kept quiet clean well =
     let same = quiet.same clean well in
-    keeps_same {old = old} {new = new} (kept (clean_before old new quiet.survives clean))
-    (still_open {s = old} (kept (clean_before old new quiet.survives clean)) (quiet.is_open clean well)) same.0 same.1
+    let first = kept (clean_before old new quiet.survives clean) in
+    keeps_same {old = old} {new = new} first (subst IsTrue (sym (quiet.is_open clean well)) (opened_at {s = old} first)) same.0 same.1
 
-pub crash_same : (old new : State) {dictionary : Entries} → Survives old new (λ _. ⊥) → HasCleanDisk new
-    → (list : List Deposit) → LeavesList new.may_leave dictionary list → LeavesList old.may_leave dictionary list
-crash_same old new survives clean list left =
-    elim (survives.crash clean left.0 left.1) [ inl may ↦ (left.0, may, left.2) | inr none ↦ absurd none ]
-
-pub whole_same : (old new : State) {dictionary : Entries} → Survives old new (λ _. ⊥) → HasCleanDisk new
-    → LeavesBroken new.may_leave dictionary → LeavesBroken old.may_leave dictionary
-whole_same old new survives clean left =
+-- what a crash leaves after a call that commits nothing, it left before
+pub left_same : (old new : State) → Survives old new (λ _. ⊥) → HasCleanDisk new → (Holds : Trees → Type 0)
+    → (trees : Trees) × new.may_leave trees × Holds trees → (trees : Trees) × old.may_leave trees × Holds trees
+left_same old new survives clean Holds left =
     elim (survives.crash clean left.0 left.1) [ inl may ↦ (left.0, may, left.2) | inr none ↦ absurd none ]
 
 -- a register that was found is kept

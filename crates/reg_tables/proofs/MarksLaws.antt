@@ -55,9 +55,8 @@ sents_paired (d ∷ list) (mark ∷ marks) long = ap (λ more. d ∷ more) (sent
 pub marks_paired : (list : List Sent) (marks : List Bool) → length marks ≡ length list
     → marks_of (paired list marks) ≡ marks
 marks_paired [] [] long = refl
-marks_paired [] (mark ∷ marks) long = absurd (omega (arith, long))
-marks_paired (d ∷ list) [] long = absurd (omega (arith, long))
 marks_paired (d ∷ list) (mark ∷ marks) long = ap (λ more. mark ∷ more) (marks_paired list marks (omega (arith, long)))
+marks_paired list marks long = absurd (omega (arith, long))
 
 -- ---- marks leave the length
 

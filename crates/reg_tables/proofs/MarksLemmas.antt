@@ -1,6 +1,7 @@
 -- Marks are found in rows that rise.
 use Rattle.std.proofs.Common.{◌≡◌, ℕ, ℤ, zero, suc, ◌+◌, ◌<◌, ◌≤◌, pos, List, [], ◌∷◌, ◌++◌, Bool, true, false, drop, length, Some, slice_get, append_assoc, append-nil, refl, sym, ap, subst, ◌∙◌, arith}
 use Rattle.std.proofs.lemmas.List.{length_push}
+use Rattle.std.proofs.lemmas.Option.{slice_get_within}
 use Rattle.sqlite.specs.Order.{Row, column}
 use Rattle.reg_tables.proofs.MethodsLaws.{slice_get_in}
 use Rattle.reg_tables.specs.Register.{integer_in, mark_rows}
@@ -72,7 +73,7 @@ matched_yes rows count at next marks was low here =
     let split : drop next rows ≡ mark_row (at + 1) ∷ drop (next + 1) rows = drop_here rows next (mark_row (at + 1)) here in
     record {
       long = length_push marks true ∙ ap (λ n. n + 1) was.long;
-      low = under rows next (mark_row (at + 1)) here;
+      low = omega (arith, slice_get_within rows next (mark_row (at + 1)) here);
       so_far = was.so_far ∙ ap (λ (rest : List Row). mark_rows 1 marks ++ rest) (split ∙ ap (λ n. mark_row n ∷ drop (next + 1) rows) g)
           ∙ sym (append_assoc (mark_rows 1 marks) (mark_row (1 + length marks) ∷ []) (drop (next + 1) rows)) ∙ ap (λ (front : List Row). front ++ drop (next + 1) rows) (sym (push_mark 1 marks true));
       left = λ others long same.
@@ -80,11 +81,6 @@ matched_yes rows count at next marks was low here =
           let more = next_yes (1 + at) it.0 (drop (at + 1) others) (drop (next + 1) rows) (ap (λ n. mark_row n ∷ drop (next + 1) rows) (sym e) ∙ sym split ∙ it.1) in
           more ∙ ap (λ n. mark_rows n (drop (at + 1) others)) f);
     }
-  where
-    under : {X : Type 0} (xs : List X) (k : ℕ) (x : X) → slice_get xs k ≡ Some x → k + 1 ≤ length xs
-    under [] k x at = absurd cc
-    under (y ∷ xs) zero x at = omega arith
-    under (y ∷ xs) (suc k) x at = omega (arith, under xs k x at)
 
 pub matched_no : (rows : List Row) (count at next : ℕ) (marks : List Bool) → Matched rows count at next marks → at < count → (slice_get rows next ≡ Some (mark_row (at + 1)) → ⊥) → Matched rows count (at + 1) next (marks ++ false ∷ [])
 matched_no rows count at next marks was low none =

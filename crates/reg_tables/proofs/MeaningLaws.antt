@@ -1,11 +1,12 @@
 -- Lemmas on the definitions of specs/Meaning.antt.
-use Rattle.std.specs.Prelude.{false, [], ◌∷◌, None, Ok, codes, List, ℕ, pos, negsuc, ◌≡◌, refl}
+use Rattle.std.specs.Prelude.{false, [], ◌∷◌, ◌++◌, None, Ok, codes, List, ℕ, pos, negsuc, ◌≡◌, refl}
 use Rattle.std.proofs.Common.{sym, subst}
 use Rattle.sqlite.specs.Table.{Table}
 use Rattle.sqlite_schema.specs.declared.schema.Index.{Index}
 use Rattle.sqlite_schema.specs.declared.schema.View.{View}
 use Rattle.sqlite.specs.Compile.{table_defined_by}
 use Rattle.sqlite.specs.Change.{created}
+use Rattle.sqlite.specs.Does.{lacks_sequence}
 use Rattle.sqlite.specs.Schema.{Schema}
 use Rattle.sqlite.specs.Term.{Term, lit, col, op2}
 use Rattle.sqlite_sql.specs.declared.ops.BinaryOp.TheVariants.{Compare}
@@ -26,65 +27,43 @@ use Rattle.reg_tables.proofs.Texts.{create_meta, create_deposits, create_lines, 
 use Rattle.reg_tables.proofs.Texts.{fill_meta, raise_format, insert_deposit, insert_line, insert_step, insert_mark}
 use Rattle.reg_tables.proofs.Texts.{insert_eight_lines, insert_eight_steps, select_deposit, select_lines, select_steps}
 use Rattle.reg_tables.proofs.Texts.{select_front, select_targets, select_all_numbers, select_marks, select_meta}
-use Rattle.reg_tables.specs.Meaning.{with_meta, with_deposits, IsPlainText}
+use Rattle.reg_tables.specs.Formats.{StartsWithMeta}
+use Rattle.reg_tables.specs.Meaning.{with_meta, with_deposits}
 
 -- ---- the tables
-
-pub meta_is : table_defined_by create_meta ≡ Ok meta
-unfolding understood everything
-meta_is = refl
-
-pub deposits_is : table_defined_by create_deposits ≡ Ok (record deposits { tree = 0 })
-unfolding understood everything
-deposits_is = refl
-
-pub lines_is : table_defined_by create_lines ≡ Ok (record lines { tree = 0 })
-unfolding understood everything
-lines_is = refl
-
-pub steps_is : table_defined_by create_steps ≡ Ok (record steps { tree = 0 })
-unfolding understood everything
-steps_is = refl
-
-pub withdrawals_is : table_defined_by create_withdrawals ≡ Ok (record withdrawals { tree = 0 })
-unfolding understood everything
-withdrawals_is = refl
 
 abbrev pub with_lines : Schema
 with_lines = created with_deposits (record lines { tree = 0 })
 
-pub first_is : created with_lines (record steps { tree = 0 }) ≡ first_schema
-unfolding understood everything
-first_is = refl
+-- Under the first schema, the text makes a table, which makes it the second; it is all of its statement, and plain.
+pub record MakesTable (from : Schema) (text : List ℕ) (to : Schema) : Type 0 where
+  pub table : Table
+  pub defined : table_defined_by text ≡ Ok table
+  pub makes : created from table ≡ to
+  pub unsequenced : lacks_sequence to ≡ false
+  pub asked : command_of (understood from text) ≡ CreateTable
+  pub whole : statement_of text (understood from text) ≡ text
+  pub plain : IsPlain (understood from text)
 
-pub schema_is : created first_schema (record withdrawals { tree = 0 }) ≡ register_schema
+pub meta_text : MakesTable no_schema create_meta with_meta
 unfolding understood everything
-schema_is = refl
+meta_text = record { table = meta; defined = refl; makes = refl; unsequenced = refl; asked = refl; whole = refl; plain = (refl, refl) }
 
--- under this schema, the text makes a table, is all of its statement, and is plain
-abbrev pub MakesTable : Schema → List ℕ → Type 0
-MakesTable schema text = (command_of (understood schema text) ≡ CreateTable)
-    × (statement_of text (understood schema text) ≡ text) × IsPlain (understood schema text)
-
-pub meta_text : MakesTable no_schema create_meta
+pub deposits_text : MakesTable with_meta create_deposits with_deposits
 unfolding understood everything
-meta_text = (refl, refl, (refl, refl))
+deposits_text = record { table = record deposits { tree = 0 }; defined = refl; makes = refl; unsequenced = refl; asked = refl; whole = refl; plain = (refl, refl) }
 
-pub deposits_text : MakesTable with_meta create_deposits
+pub lines_text : MakesTable with_deposits create_lines with_lines
 unfolding understood everything
-deposits_text = (refl, refl, (refl, refl))
+lines_text = record { table = record lines { tree = 0 }; defined = refl; makes = refl; unsequenced = refl; asked = refl; whole = refl; plain = (refl, refl) }
 
-pub lines_text : MakesTable with_deposits create_lines
+pub steps_text : MakesTable with_lines create_steps first_schema
 unfolding understood everything
-lines_text = (refl, refl, (refl, refl))
+steps_text = record { table = record steps { tree = 0 }; defined = refl; makes = refl; unsequenced = refl; asked = refl; whole = refl; plain = (refl, refl) }
 
-pub steps_text : MakesTable with_lines create_steps
+pub withdrawals_text : MakesTable first_schema create_withdrawals register_schema
 unfolding understood everything
-steps_text = (refl, refl, (refl, refl))
-
-pub withdrawals_text : MakesTable first_schema create_withdrawals
-unfolding understood everything
-withdrawals_text = (refl, refl, (refl, refl))
+withdrawals_text = record { table = record withdrawals { tree = 0 }; defined = refl; makes = refl; unsequenced = refl; asked = refl; whole = refl; plain = (refl, refl) }
 
 -- ---- the inserts
 
@@ -101,17 +80,15 @@ pub fill_is : InsertsInto 0 fill_terms 4 fill_meta
 unfolding understood everything
 fill_is = (refl, (refl, refl))
 
-abbrev pub deposit_terms : List Term
-deposit_terms = lit Null ∷ col 0 0 ∷ col 0 1 ∷ col 0 2 ∷ col 0 3 ∷ col 0 4 ∷ []
+-- a rowid that is to be chosen, and five columns
+abbrev pub row_terms : List Term
+row_terms = lit Null ∷ col 0 0 ∷ col 0 1 ∷ col 0 2 ∷ col 0 3 ∷ col 0 4 ∷ []
 
-pub deposit_is : InsertsInto 1 deposit_terms 6 insert_deposit
+pub deposit_is : InsertsInto 1 row_terms 6 insert_deposit
 unfolding understood everything
 deposit_is = (refl, (refl, refl))
 
-abbrev pub line_terms : List Term
-line_terms = lit Null ∷ col 0 0 ∷ col 0 1 ∷ col 0 2 ∷ col 0 3 ∷ col 0 4 ∷ []
-
-pub line_is : InsertsInto 2 line_terms 6 insert_line
+pub line_is : InsertsInto 2 row_terms 6 insert_line
 unfolding understood everything
 line_is = (refl, (refl, refl))
 
@@ -180,31 +157,31 @@ plainly q names = Select (record { lets = []; body = q }) names
 abbrev pub rising : Term → Term × Key
 rising t = (t, record { collation = Binary; descending = false })
 
--- under this schema, the text asks this query of the tables
-abbrev pub AsksIn : Schema → List ℕ → Query → List (List ℕ) → Type 0
-AsksIn schema text q names = (command_of (understood schema text) ≡ plainly q names) × IsPlain (understood schema text)
-    × (reads_listing schema text ≡ false)
+-- Under this schema, the text asks this query of the tables, is plain, and reads nothing else.
+pub record AsksIn (schema : Schema) (text : List ℕ) (q : Query) (names : List (List ℕ)) : Type 0 where
+  pub asked : command_of (understood schema text) ≡ plainly q names
+  pub plain : IsPlain (understood schema text)
+  pub alone : reads_listing schema text ≡ false
 
--- Under each schema that begins with the tables of a register, the text asks this query, and reads nothing else.
+-- under each schema that begins with the tables of a register, the text asks this query
 abbrev pub Asks : List ℕ → Query → List (List ℕ) → Type 0
-Asks text q names = ((schema : Schema) → HasTables schema → command_of (understood schema text) ≡ plainly q names)
-    × IsPlainText text × ((schema : Schema) → HasTables schema → reads_listing schema text ≡ false)
+Asks text q names = (schema : Schema) → HasTables schema → AsksIn schema text q names
 
--- the tables of a register, and more
-abbrev with_more : List Table → List Index → List View → Schema
-with_more more indexes views =
-    record { tables = meta ∷ deposits ∷ lines ∷ steps ∷ more; indexes = indexes; views = views }
+-- a schema that begins with these tables
+abbrev begun : List Table → List Table → List Index → List View → Schema
+begun first more indexes views = record { tables = first ++ more; indexes = indexes; views = views }
 
-asks : (text : List ℕ) (q : Query) (names : List (List ℕ)) → ((more : List Table) (indexes : List Index)
-    (views : List View) → AsksIn (with_more more indexes views) text q names) → Asks text q names
-asks text q names each =
-    (λ schema has. (at schema has).0, λ schema has. (at schema has).1, λ schema has. (at schema has).2)
-  where
-    at : (schema : Schema) → HasTables schema → AsksIn schema text q names
-    at schema has =
-        let same : with_more has.0 schema.indexes schema.views ≡ schema =
-        λ i. record { tables = sym has.1 i; indexes = schema.indexes; views = schema.views } in
-        subst (λ s. AsksIn s text q names) same (each has.0 schema.indexes schema.views)
+-- what a text asks under each schema of this form, it asks under each that begins so
+asks : {text : List ℕ} {q : Query} {names : List (List ℕ)} (first : List Table)
+    → ((more : List Table) (indexes : List Index) (views : List View) → AsksIn (begun first more indexes views) text q names)
+    → (schema : Schema) → (more : List Table) × (schema.tables ≡ first ++ more) → AsksIn schema text q names
+asks {text} {q} {names} first each schema has =
+    let same : begun first has.0 schema.indexes schema.views ≡ schema =
+    λ i. record { tables = sym has.1 i; indexes = schema.indexes; views = schema.views } in
+    subst (λ s. AsksIn s text q names) same (each has.0 schema.indexes schema.views)
+
+abbrev all_four : List Table
+all_four = meta ∷ deposits ∷ lines ∷ steps ∷ []
 
 abbrev pub by_number : Query
 by_number = query (inner 2 end) (op2 (Compare Eq Binary) (col 1 1) (col 0 0) ∷ [])
@@ -213,8 +190,7 @@ by_number = query (inner 2 end) (op2 (Compare Eq Binary) (col 1 1) (col 0 0) ∷
 pub deposit_read : Asks select_deposit by_number
     (codes "number" ∷ codes "firm" ∷ codes "project" ∷ codes "embargo" ∷ codes "body" ∷ [])
 unfolding understood everything
-deposit_read = asks select_deposit by_number (codes "number" ∷ codes "firm" ∷ codes "project" ∷ codes "embargo"
-    ∷ codes "body" ∷ []) (λ more indexes views. (refl, (refl, refl), refl))
+deposit_read = asks all_four (λ more indexes views. record { asked = refl; plain = (refl, refl); alone = refl })
 
 abbrev pub lines_of_deposit : Query
 lines_of_deposit = query (inner 4 end) (op2 (Compare Eq Binary) (col 1 1) (col 0 0) ∷ [])
@@ -222,8 +198,7 @@ lines_of_deposit = query (inner 4 end) (op2 (Compare Eq Binary) (col 1 1) (col 0
 
 pub lines_read : Asks select_lines lines_of_deposit (codes "seq" ∷ codes "grp" ∷ codes "kind" ∷ codes "line" ∷ [])
 unfolding understood everything
-lines_read = asks select_lines lines_of_deposit (codes "seq" ∷ codes "grp" ∷ codes "kind" ∷ codes "line" ∷ [])
-    (λ more indexes views. (refl, (refl, refl), refl))
+lines_read = asks all_four (λ more indexes views. record { asked = refl; plain = (refl, refl); alone = refl })
 
 abbrev pub steps_of_deposit : Query
 steps_of_deposit = query (inner 6 end) (op2 (Compare Eq Binary) (col 1 1) (col 0 0) ∷ []) (col 1 2 ∷ col 1 3 ∷ [])
@@ -231,8 +206,7 @@ steps_of_deposit = query (inner 6 end) (op2 (Compare Eq Binary) (col 1 1) (col 0
 
 pub steps_read : Asks select_steps steps_of_deposit (codes "child" ∷ codes "target" ∷ [])
 unfolding understood everything
-steps_read = asks select_steps steps_of_deposit (codes "child" ∷ codes "target" ∷ [])
-    (λ more indexes views. (refl, (refl, refl), refl))
+steps_read = asks all_four (λ more indexes views. record { asked = refl; plain = (refl, refl); alone = refl })
 
 abbrev pub front_of_deposit : Query
 front_of_deposit = query (inner 4 end) (op2 (Compare Eq Binary) (col 1 1) (col 0 0) ∷ op2 (Compare Lt Binary) (col 1 2)
@@ -240,8 +214,7 @@ front_of_deposit = query (inner 4 end) (op2 (Compare Eq Binary) (col 1 1) (col 0
 
 pub front_read : Asks select_front front_of_deposit (codes "seq" ∷ codes "grp" ∷ codes "kind" ∷ codes "line" ∷ [])
 unfolding understood everything
-front_read = asks select_front front_of_deposit (codes "seq" ∷ codes "grp" ∷ codes "kind" ∷ codes "line" ∷ [])
-    (λ more indexes views. (refl, (refl, refl), refl))
+front_read = asks all_four (λ more indexes views. record { asked = refl; plain = (refl, refl); alone = refl })
 
 abbrev pub targets_of_row : Query
 targets_of_row = query (inner 6 end) (op2 (Compare Eq Binary) (col 1 1) (col 0 0)
@@ -249,31 +222,29 @@ targets_of_row = query (inner 6 end) (op2 (Compare Eq Binary) (col 1 1) (col 0 0
 
 pub targets_read : Asks select_targets targets_of_row (codes "target" ∷ [])
 unfolding understood everything
-targets_read =
-    asks select_targets targets_of_row (codes "target" ∷ []) (λ more indexes views. (refl, (refl, refl), refl))
+targets_read = asks all_four (λ more indexes views. record { asked = refl; plain = (refl, refl); alone = refl })
 
 abbrev pub all_numbers : Query
 all_numbers = query (inner 2 end) [] (col 1 1 ∷ []) (rising (col 1 1) ∷ [])
 
 pub all_numbers_read : Asks select_all_numbers all_numbers (codes "number" ∷ [])
 unfolding understood everything
-all_numbers_read =
-    asks select_all_numbers all_numbers (codes "number" ∷ []) (λ more indexes views. (refl, (refl, refl), refl))
+all_numbers_read = asks all_four (λ more indexes views. record { asked = refl; plain = (refl, refl); alone = refl })
 
 abbrev pub all_meta : Query
 all_meta = query (inner 0 end) [] (col 1 1 ∷ col 1 2 ∷ col 1 3 ∷ []) (rising (col 1 1) ∷ [])
 
-pub all_meta_read : Asks select_meta all_meta (codes "name" ∷ codes "num" ∷ codes "body" ∷ [])
+pub all_meta_read : (schema : Schema) → StartsWithMeta schema
+    → AsksIn schema select_meta all_meta (codes "name" ∷ codes "num" ∷ codes "body" ∷ [])
 unfolding understood everything
-all_meta_read = asks select_meta all_meta (codes "name" ∷ codes "num" ∷ codes "body" ∷ [])
-    (λ more indexes views. (refl, (refl, refl), refl))
+all_meta_read = asks (meta ∷ []) (λ more indexes views. record { asked = refl; plain = (refl, refl); alone = refl })
 
 abbrev pub all_marks : Query
 all_marks = query (inner 8 end) [] (col 1 0 ∷ []) (rising (col 1 0) ∷ [])
 
-pub all_marks_read : AsksIn register_schema select_marks all_marks (codes "deposit" ∷ [])
+pub all_marks_read : (schema : Schema) → schema ≡ register_schema → AsksIn schema select_marks all_marks (codes "deposit" ∷ [])
 unfolding understood everything
-all_marks_read = (refl, (refl, refl), refl)
+all_marks_read schema is = subst (λ s. AsksIn s select_marks all_marks (codes "deposit" ∷ [])) (sym is) (record { asked = refl; plain = (refl, refl); alone = refl })
 
 -- ---- the update
 
@@ -282,11 +253,7 @@ abbrev pub format_raised : Query
 format_raised = query (inner 0 end) (op2 (Compare Eq Binary) (col 1 1) (lit (Words (codes "format"))) ∷ [])
     (col 1 0 ∷ col 1 0 ∷ col 1 1 ∷ lit (Int (pos 2)) ∷ col 1 3 ∷ []) []
 
-pub raise_is : command_of (understood register_schema raise_format)
-    ≡ Update 0 (record { lets = []; body = format_raised })
+pub raise_is : (command_of (understood register_schema raise_format) ≡ Update 0 (record { lets = []; body = format_raised }))
+    × IsPlain (understood register_schema raise_format)
 unfolding understood everything
-raise_is = refl
-
-pub raise_plain : IsPlain (understood register_schema raise_format)
-unfolding understood everything
-raise_plain = (refl, refl)
+raise_is = (refl, (refl, refl))

@@ -21,6 +21,9 @@ use Rattle.reg_tables.specs.declared.memory.Memory.{Memory}
 use Rattle.reg_tables.specs.declared.memory.digests.Digests.{Digests}
 use Rattle.reg_tables.specs.Digests.{AddsNumber, AreBelow, AreDigested, PutsNumbers, numbers_under, own_digest}
 use Rattle.reg_tables.specs.Heads.{head_of}
+use Rattle.sqlite_catalog.proofs.ListFacts.{zip_push}
+use Rattle.reg_tables.proofs.MethodsLaws.{zip_at}
+use Rattle.reg_tables.proofs.PushesLaws.{pushed_get}
 use Rattle.reg_tables.proofs.KeepLaws.{keeps_quiet}
 use Rattle.reg_tables.specs.Memory.{Agrees, AreKnown, IsComing, IsKnown, IsNumberOf, Remembers, new_known, with_mark}
 use Rattle.reg_tables.proofs.Known.{bare_of, marked_known}
@@ -34,21 +37,16 @@ use Rattle.reg_tables.proofs.RepeatsLemmas.{below_more, below_same, digested_pus
 -- ---- what is known of each deposit
 
 known_at : (dictionary : Entries) (list : List Deposit) (known : List Known) (k : ℕ) (one : Known) (d : Deposit) → AllZip (IsKnown dictionary) list known → slice_get known k ≡ Some one → slice_get list k ≡ Some d → IsKnown dictionary d one
-known_at dictionary [] [] k one d all here there = absurd cc
-known_at dictionary [] (x ∷ known) k one d all here there = absurd all
-known_at dictionary (e ∷ list) [] k one d all here there = absurd all
-known_at dictionary (e ∷ list) (x ∷ known) zero one d all here there =
-    let p : e ≡ d = cc in
-    let q : x ≡ one = cc in
-    subst₂ (IsKnown dictionary) p q all.0
-known_at dictionary (e ∷ list) (x ∷ known) (suc k) one d all here there = known_at dictionary list known k one d all.1 here there
+known_at dictionary list known k one d all here there =
+    let it = zip_at (IsKnown dictionary) list known k d all there in
+    let same : it.0 ≡ one = cc (it.1, here) in
+    subst (IsKnown dictionary d) same it.2
 
 zipped : (dictionary : Entries) (list : List Deposit) (known : List Known) → AreKnown dictionary list known → AllZip (IsKnown dictionary) list known
 zipped dictionary [] [] are = tt
-zipped dictionary [] (one ∷ known) are = absurd (omega (arith, are.long))
-zipped dictionary (d ∷ list) [] are = absurd (omega (arith, are.long))
 zipped dictionary (d ∷ list) (one ∷ known) are =
     (are.each 0 d one refl refl, zipped dictionary list known (record { long = omega (arith, are.long); each = λ k e other there here. are.each (suc k) e other there here }))
+zipped dictionary list known are = absurd (omega (arith, are.long))
 
 unzipped : (dictionary : Entries) (list : List Deposit) (known : List Known) → AllZip (IsKnown dictionary) list known → AreKnown dictionary list known
 unzipped dictionary list known all = record { long = AllZip-long (IsKnown dictionary) list known all; each = λ k d one there here. known_at dictionary list known k one d all here there }
@@ -78,11 +76,6 @@ known_all heads marks known at end long are =
     let ended : length marks ≤ at = omega (arith, end, long) in
     are ∙ ap (λ (first : List KeptHead). marked_known first (take at marks)) (take_all at heads end) ∙ ap (marked_known heads) (take_all at marks ended)
 
-pub get_there : {X : Type 0} (xs : List X) (k : ℕ) (d : X) → k < length xs → slice_get xs k ≡ Some (get_or xs k d)
-get_there [] k d low = absurd (omega (arith, low))
-get_there (x ∷ xs) zero d low = refl
-get_there (x ∷ xs) (suc k) d low = get_there xs k d (omega (arith, low))
-
 -- one head and one mark more
 pub marked_more : (heads : List KeptHead) (marks : List Bool) (k : ℕ) (head : KeptHead) (mark : Bool) → slice_get heads k ≡ Some head → slice_get marks k ≡ Some mark
     → marked_known (take (suc k) heads) (take (suc k) marks) ≡ marked_known (take k heads) (take k marks) ++ new_known (with_mark head mark) ∷ []
@@ -94,19 +87,12 @@ marked_more (h ∷ heads) (m ∷ marks) zero head mark here there =
     rw (p, q) refl
 marked_more (h ∷ heads) (m ∷ marks) (suc k) head mark here there = ap (λ all. new_known (with_mark h m) ∷ all) (marked_more heads marks k head mark here there)
 
-push_zipped : (dictionary : Entries) (list : List Deposit) (known : List Known) (d : Deposit) (one : Known) → AllZip (IsKnown dictionary) list known → IsKnown dictionary d one → AllZip (IsKnown dictionary) (list ++ d ∷ []) (known ++ one ∷ [])
-push_zipped dictionary [] [] d one all last = (last, tt)
-push_zipped dictionary [] (x ∷ known) d one all last = absurd all
-push_zipped dictionary (e ∷ list) [] d one all last = absurd all
-push_zipped dictionary (e ∷ list) (x ∷ known) d one all last = (all.0, push_zipped dictionary list known d one all.1 last)
-
 -- something else is known of one deposit
 set_zipped : (dictionary : Entries) (list : List Deposit) (known : List Known) (k : ℕ) (one : Known) → AllZip (IsKnown dictionary) list known → ((d : Deposit) → slice_get list k ≡ Some d → IsKnown dictionary d one) → AllZip (IsKnown dictionary) list (set known k one)
 set_zipped dictionary [] [] k one all its = tt
-set_zipped dictionary [] (x ∷ known) k one all its = absurd all
-set_zipped dictionary (e ∷ list) [] k one all its = absurd all
 set_zipped dictionary (e ∷ list) (x ∷ known) zero one all its = (its e refl, all.1)
 set_zipped dictionary (e ∷ list) (x ∷ known) (suc k) one all its = (all.0, set_zipped dictionary list known k one all.1 its)
+set_zipped dictionary list known k one all its = absurd all
 
 -- the heads give the numbers of a project
 numbers_zipped : (n : ℕ) (project : List ℕ) (dictionary : Entries) (list : List Deposit) (known : List Known) → AllZip (IsKnown dictionary) list known → numbers_from n project (map bare_of known) ≡ numbers_from n project (sents list)
@@ -133,18 +119,13 @@ numbers_held n project dictionary list known are = numbers_zipped n project dict
 
 -- ---- one deposit more
 
--- a deposit of a list has its place still where the list is longer by one
-still_there : (list : List Sent) (d : Sent) (k : ℕ) → k < length list → slice_get (list ++ d ∷ []) k ≡ slice_get list k
-still_there [] d k low = absurd (omega (arith, low))
-still_there (x ∷ list) d zero low = refl
-still_there (x ∷ list) d (suc k) low = still_there list d k (omega (arith, low))
-
 still_of : (dictionary : Entries) (list : List Deposit) (d : Sent) (n : ℕ) (Holds : CheckedFile → Type 0) → IsNumberOf n list × OfDeposit dictionary (sents list) n Holds
     → IsNumberOf n (list ++ unmarked d ∷ []) × OfDeposit dictionary (sents (list ++ unmarked d ∷ [])) n Holds
 still_of dictionary list d n Holds it =
     let longer = length_push list (unmarked d) in
     let low : n - 1 < length (sents list) = omega (arith, it.0.0, it.0.1, long_sents list) in
-    ((it.0.0, omega (arith, it.0.1, longer)), λ e file at of. it.1 e file (sym (still_there (sents list) d (n - 1) low) ∙ ap (λ (all : List Sent). slice_get all (n - 1)) (sym (sents_push list d)) ∙ at) of)
+    let same = sym (pushed_get (sents list) d (n - 1) (λ e. absurd (omega (arith, low, e)))) in
+    ((it.0.0, omega (arith, it.0.1, longer)), λ e file at of. it.1 e file (same ∙ ap (λ (all : List Sent). slice_get all (n - 1)) (sym (sents_push list d)) ∙ at) of)
 
 pub agrees_push : (old new : Memory) (coming : Coming) (dictionary : Entries) (list : List Deposit) (d : Sent) → new.known.items ≡ old.known.items ++ coming.known ∷ [] → PutsNumbers old.digests new.digests coming.digest coming.numbers.items
     → new.rows ≡ old.rows → new.graph ≡ old.graph → IsComing old d coming → Agrees old dictionary list → Agrees new dictionary (list ++ unmarked d ∷ [])
@@ -155,7 +136,7 @@ agrees_push old new coming dictionary list d known puts rows graph its agrees =
     let next = list ++ unmarked d ∷ [] in
     record {
       known = subst (AreKnown dictionary next) (sym (known ∙ ap (λ one. old.known.items ++ one ∷ []) its.known))
-          (unzipped dictionary next _ (push_zipped dictionary list old.known.items (unmarked d) (new_known (head_of d)) (zipped dictionary list old.known.items agrees.known) (new_zipped dictionary (unmarked d ∷ [])).0));
+          (unzipped dictionary next _ (zip_push (IsKnown dictionary) list old.known.items (unmarked d) (new_known (head_of d)) (zipped dictionary list old.known.items agrees.known) (new_zipped dictionary (unmarked d ∷ [])).0));
       digests = digested_push old.digests new.digests coming.digest (sents list) (sents next) d (length list + 1) agrees.digests adds its.digest (ap (λ n. n + 1) (sym (long_sents list))) (sents_push list d);
       below = subst (λ n. AreBelow new.digests (n + 1)) (sym (length_push list (unmarked d))) (below_more old.digests new.digests coming.digest (length list + 1) (omega arith) adds agrees.below);
       rows = λ held at. still_of dictionary list d held.number (HasKeptRows held.rows) (agrees.rows held (sym rows ∙ at));
@@ -176,13 +157,12 @@ marked_one one = record { head = with_mark one.head true; project = one.project;
 
 mark_zipped : (dictionary : Entries) (list : List Deposit) (known : List Known) (k : ℕ) (one : Known) → slice_get known k ≡ Some one → AllZip (IsKnown dictionary) list known → AllZip (IsKnown dictionary) (marked (suc k) list) (set known k (marked_one one))
 mark_zipped dictionary [] [] k one at all = tt
-mark_zipped dictionary [] (x ∷ known) k one at all = absurd all
-mark_zipped dictionary (e ∷ list) [] k one at all = absurd all
 mark_zipped dictionary (e ∷ list) (x ∷ known) zero one at all =
     let same : x ≡ one = cc in
     let was : IsKnown dictionary e one = subst (IsKnown dictionary e) same all.0 in
     (record { head = ap (λ (h : KeptHead). with_mark h true) was.head; project = was.project; alone = was.alone }, all.1)
 mark_zipped dictionary (e ∷ list) (x ∷ known) (suc k) one at all = (all.0, mark_zipped dictionary list known k one at all.1)
+mark_zipped dictionary list known k one at all = absurd all
 
 marked_of : (dictionary : Entries) (list : List Deposit) (n m : ℕ) (Holds : CheckedFile → Type 0) → IsNumberOf m list × OfDeposit dictionary (sents list) m Holds → IsNumberOf m (marked n list) × OfDeposit dictionary (sents (marked n list)) m Holds
 marked_of dictionary list n m Holds it =

@@ -5,6 +5,7 @@ use Rattle.std.proofs.Common.{zero, suc, sym, ap, ◌∙◌, subst, subst₂, re
 use Rattle.std.proofs.Math.Logic.{∥∥₁_elim}
 use Rattle.std.proofs.Props.{props}
 use Rattle.std.specs.List.{AllZip}
+use Rattle.std.proofs.lemmas.Result.{IfOk-weaker}
 use Rattle.std.specs.List.Sorted.{IsPermutation}
 use Rattle.sqlite.specs.Tree.{IsAscending}
 use Rattle.sqlite.specs.Order.{Row}
@@ -84,11 +85,21 @@ held_file {s} {dictionary} n d k low at =
     (k.register.holds.steps (n - 1)) in
     (it.0, it.2, lines, steps)
 
-pub same_file : (dictionary : Entries) (d : Sent) (a b : CheckedFile) → IsFileOf dictionary d a
-    → IsFileOf dictionary d b → (a.groups ≡ b.groups) × (a.graph ≡ b.graph)
-same_file dictionary d a b x y =
-    let one : a ≡ b = one_clean_file a b x.clean y.clean (x.given ∙ sym y.given) (x.bytes ∙ sym y.bytes) in
-    (ap (λ (f : CheckedFile). f.groups) one, ap (λ (f : CheckedFile). f.graph) one)
+pub same_file : (dictionary : Entries) (d : Sent) (a b : CheckedFile) → IsFileOf dictionary d a → IsFileOf dictionary d b → a ≡ b
+same_file dictionary d a b x y = one_clean_file a b x.clean y.clean (x.given ∙ sym y.given) (x.bytes ∙ sym y.bytes)
+
+-- what is read of the file that the register holds of a deposit is so of each file of it
+pub of_file : {X Y : Type 0} (items : X → Y) (of : CheckedFile → Y) → ((a b : Y) → IsProp (a ≡ b)) → {s : State} {dictionary : Entries} {count : ℕ} (n : ℕ)
+    (r : Result X KeepError) → 0 < n → ∥ KeepsRegister s dictionary count ∥₁
+    → IfOk r (λ x. (d : Sent) (file : CheckedFile) → IsFileOf dictionary d file
+    → IsPermutation (placed_rows 0 (kept_rows file.groups)) (rows_under n (line_table s.now.trees))
+    → IsPermutation (map step_pair file.graph.steps) (rows_under n (step_table s.now.trees)) → items x ≡ of file)
+    → IfOk r (λ x. (d : Sent) (file : CheckedFile) → slice_get (sents (deposits_in s.committed.trees)) (n - 1) ≡ Some d
+    → IsFileOf dictionary d file → items x ≡ of file)
+of_file items of set {s} {dictionary} {count} n (Ok x) low h read = λ d file at its.
+    ∥∥₁_elim h (set (items x) (of file)) (λ (k : KeepsRegister s dictionary count).
+    (let held = held_file n d k low at in read d held.0 held.1 held.2 held.3 ∙ ap of (same_file dictionary d held.0 file held.1 its)))
+of_file items of set n (Err e) low h read = tt
 
 pub rows_at : {X : Type 0} (items : X → List KeptRow) {s : State} {dictionary : Entries} {count : ℕ} (n : ℕ)
     (r : Result X KeepError) → 0 < n → ∥ KeepsRegister s dictionary count ∥₁
@@ -96,12 +107,8 @@ pub rows_at : {X : Type 0} (items : X → List KeptRow) {s : State} {dictionary 
     → items x ≡ rows)
     → IfOk r (λ x. (d : Sent) (file : CheckedFile) → slice_get (sents (deposits_in s.committed.trees)) (n - 1) ≡ Some d
     → IsFileOf dictionary d file → items x ≡ kept_rows file.groups)
-rows_at items {s} {dictionary} {count} n (Ok x) low h ok = λ d file at its.
-    let read : (k : KeepsRegister s dictionary count) → items x ≡ kept_rows file.groups = λ k.
-    (let held = held_file n d k low at in
-    ok (kept_rows held.0.groups) held.2 ∙ ap kept_rows (same_file dictionary d held.0 file held.1 its).0) in
-    let same : items x ≡ kept_rows file.groups = ∥∥₁_elim h (rows_set _ _) read in same
-rows_at items n (Err e) low h ok = tt
+rows_at items n r low h ok = of_file items (λ file. kept_rows file.groups) rows_set n r low h
+    (IfOk-weaker r _ _ (λ x read d file its lines steps. read (kept_rows file.groups) lines) ok)
 
 ascending : (steps : List (ℕ × ℕ)) → AreAscending steps → IsAscending IsBefore steps
 ascending [] h = tt
@@ -123,12 +130,7 @@ pub graph_at : {s : State} {dictionary : Entries} {count : ℕ} (n : ℕ) (r : R
     → IfOk r (λ graph. HasSteps n (step_table s.now.trees) graph.steps)
     → IfOk r (λ graph. (d : Sent) (file : CheckedFile) → slice_get (sents (deposits_in s.committed.trees)) (n - 1)
     ≡ Some d → IsFileOf dictionary d file → graph ≡ file.graph)
-graph_at {s} {dictionary} {count} n (Ok graph) low h rows steps = λ d file at its.
-    let read : (k : KeepsRegister s dictionary count) → graph ≡ file.graph = λ k.
-    (let held = held_file n d k low at in
-    let clean = held.1.clean in
-    let up = graph_ascends held.0 clean.graph in
-    one_wiring graph held.0.graph (rows held.0.groups held.2
-    ∙ sym clean.graph.rows) (steps held.0.graph.steps up held.3) ∙ (same_file dictionary d held.0 file held.1 its).1) in
-    let same : graph ≡ file.graph = ∥∥₁_elim h (wiring_set _ _) read in same
+graph_at n (Ok graph) low h rows steps = of_file (λ g. g) (λ file. file.graph) wiring_set n (Ok graph) low h (λ d file its lines held.
+    one_wiring graph file.graph (rows file.groups lines ∙ sym its.clean.graph.rows)
+    (steps file.graph.steps (graph_ascends file its.clean.graph) held))
 graph_at n (Err e) low h rows steps = tt

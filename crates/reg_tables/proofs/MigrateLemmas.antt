@@ -1,7 +1,8 @@
 -- The statements that make a register of format 1 one of format 2.
-use Rattle.std.proofs.Common.{◌≡◌, ◌≢◌, ◌==◌, ◌⊎◌, inl, inr, ℕ, zero, suc, ◌+◌, pos, Bool, true, false, List, [], ◌∷◌, map, length, slice_get, All, Option, Some, None, Result, Ok, Err, IfOk, IfErr, OnOk, IsTrue, replicate, refl, sym, ap, subst, subst₂, ◌∙◌, arith}
+use Rattle.std.proofs.Common.{◌≡◌, ◌≢◌, ◌==◌, ◌⊎◌, inl, inr, ℕ, zero, suc, ◌+◌, pos, Bool, true, false, List, [], ◌∷◌, map, length, All, None, Result, Ok, Err, IfOk, IfErr, OnOk, IsTrue, replicate, refl, sym, ap, subst, subst₂, ◌∙◌, arith}
 use Rattle.std.proofs.Math.Logic.{∥∥₁_elim, ∥∥₁_map}
 use Rattle.std.proofs.Props.{props}
+use Rattle.std.proofs.lemmas.Bool.{eqb-false}
 use Rattle.std.proofs.lemmas.List.{length-map}
 use Rattle.std.specs.List.{AllByRecursion, flat_map, filter_map}
 use Rattle.std.specs.List.Sorted.{IsPermutation}
@@ -19,15 +20,13 @@ use Rattle.sqlite.specs.Rows.{Written}
 use Rattle.sqlite.specs.Tree.{Trees}
 use Rattle.sqlite.specs.Listing.{understood}
 use Rattle.sqlite.specs.declared.error.Error.{Error}
-use Rattle.sqlite.specs.State.{State, HasCleanDisk, Survives, mode_of, Executes, Opens, Shown, FailsToQuery, FailsToShow, IsNotRun, IsRolledBack, IsTooLate, IsUnchanged, KeepsCommit}
-use Rattle.sqlite.specs.Clock.{timed}
+use Rattle.sqlite.specs.State.{State, HasCleanDisk, Survives, mode_of, Executes, Opens, Shown, FailsToQuery, IsTooLate, KeepsCommit}
 use Rattle.sqlite.proofs.StateLemmas.{survives_then, survives_weaker}
 use Rattle.sqlite.proofs.Callers.{one_step, runs_as, statement_of}
 use Rattle.sqlite_rules.specs.Action.{deed_for, pairs, work_by, works}
 use Rattle.sqlite_rules.specs.Calls.{ids_of}
 use Rattle.sqlite_rules.specs.Edit.{taken_by}
 use Rattle.sqlite_schema.specs.Rules.{parent_key}
-use Rattle.sqlite_schema.specs.declared.command.Returning.{Returning}
 use Rattle.sqlite_schema.specs.declared.schema.Keys.TheVariants.{Enforced}
 use Rattle.ags_dict.specs.Entries.{Entries}
 use Rattle.reg_store.specs.Deposit.{Deposit, sents, unmarked}
@@ -46,7 +45,7 @@ use Rattle.reg_tables.specs.Creates.{MakesWithdrawals}
 use Rattle.reg_tables.proofs.InsertsLaws.{same_value, went}
 use Rattle.reg_tables.specs.Inside.{Inside, Ran}
 use Rattle.reg_tables.proofs.MarksLaws.{none_withdrawn, sents_unmarked}
-use Rattle.reg_tables.proofs.MeaningLaws.{format_raised, raise_is, raise_plain}
+use Rattle.reg_tables.proofs.MeaningLaws.{all_meta_read, format_raised, raise_is}
 use Rattle.reg_tables.specs.KeepLaws.{ChangesOf}
 use Rattle.reg_tables.specs.declared.memory.Memory.{Memory}
 use Rattle.reg_tables.specs.declared.memory.digests.Digests.{Digests}
@@ -55,16 +54,16 @@ use Rattle.reg_tables.specs.Formats.{StartsWithMeta}
 use Rattle.reg_tables.specs.Heads.{AreHeads, HoldsHeads, head_of}
 use Rattle.reg_tables.specs.Memory.{Agrees, Recalls}
 use Rattle.reg_tables.specs.Migrates.{AddsWithdrawals, FindsFirst, HoldsFirst, IsMigrated, MigratedOf, Migrates, RecallsFirst}
-use Rattle.reg_tables.specs.Register.{deposit_rows, deposits_in, file_lines, file_steps, HoldsSent, IsRegister, IsRegisterOf, marks_of, meta_columns, sents_in, tables}
+use Rattle.reg_tables.specs.Register.{deposits_in, HoldsSent, IsRegister, IsRegisterOf, marks_of, meta_columns, sents_in, tables}
 use Rattle.reg_tables.specs.RegisterLaws.{sents_back}
-use Rattle.reg_tables.specs.Rows.{columns_3, columns_5, dictionary_row, mark_column, rows_under}
+use Rattle.reg_tables.specs.Rows.{columns_3, dictionary_row, mark_column}
 use Rattle.reg_tables.specs.Tables.{meta, register_schema}
 use Rattle.reg_tables.specs.ReadBack.{read_back}
-use Rattle.reg_tables.proofs.ReadBackLaws.{unmarked_register}
+use Rattle.reg_tables.proofs.ReadBackLaws.{holds_same, unmarked_register}
 use Rattle.reg_tables.proofs.Texts.{raise_format, select_meta}
-use Rattle.reg_tables.proofs.FormatLemmas.{asks_meta}
+use Rattle.reg_tables.proofs.AddsLemmas.{kept_either}
 use Rattle.reg_tables.proofs.OpenLemmas.{found_tables}
-use Rattle.reg_tables.proofs.QueryLemmas.{shown_same}
+use Rattle.reg_tables.proofs.QueryLemmas.{fails_so, shown_same}
 use Rattle.reg_tables.proofs.RepeatsLemmas.{digested_held}
 
 -- ---- what the update of meta leaves alone
@@ -86,7 +85,7 @@ changes_meta : (old new : State) (count : ℕ) → old.now.schema ≡ register_s
 changes_meta old new count has h =
     let db = old.now.trees in
     let command = Update 0 (record { lets = []; body = format_raised }) in
-    let w = runs_as raise_format [] old new register_schema has command raise_is raise_plain count h in
+    let w = runs_as raise_format [] old new register_schema has command raise_is.0 raise_is.1 count h in
     let text = statement_of raise_format (understood register_schema raise_format) in
     let done = went (subst (λ s. Does old.step_limit (mode_of old) [] (record old.now { schema = s }) text None command (Ok (w.tally, new.now))) has w.changed) in
     let now = ap (λ (p : Tally × Database). p.1) (same_value (went (went done.2).2).2) in
@@ -109,10 +108,10 @@ changes_tables a b c one two =
       change = record {
         schema = raised.schema;
         sound = raised.sound;
-        deposits = raised.others.1.0 (λ e. absurd (let no : 2 ≡ 0 = e in omega arith)) ∙ made.others.1.0;
-        lines = raised.others.1.1.0 (λ e. absurd (let no : 4 ≡ 0 = e in omega arith)) ∙ made.others.1.1.0;
-        steps = raised.others.1.1.1.0 (λ e. absurd (let no : 6 ≡ 0 = e in omega arith)) ∙ made.others.1.1.1.0;
-        marks = raised.others.1.1.1.1.0 (λ e. absurd (let no : 8 ≡ 0 = e in omega arith)) ∙ made.empty;
+        deposits = raised.others.1.0 (eqb-false 2 0 refl) ∙ made.others.1.0;
+        lines = raised.others.1.1.0 (eqb-false 4 0 refl) ∙ made.others.1.1.0;
+        steps = raised.others.1.1.1.0 (eqb-false 6 0 refl) ∙ made.others.1.1.1.0;
+        marks = raised.others.1.1.1.1.0 (eqb-false 8 0 refl) ∙ made.empty;
       };
       goes_on = two.goes_on;
       is_open = two.is_open;
@@ -144,22 +143,8 @@ raises old new text before after put dictionary list was = record {
     same = same_text was.text text (IsPermutation-trans _ _ _ was.meta (IsPermutation-sym _ _ before))
 
     holds : HoldsSent Second new dictionary list
-    holds = record {
-      schema = put.schema;
-      sound = put.sound;
-      text = was.text;
-      short = was.short;
-      reads = was.reads;
-      meta = subst (λ (t : List ℕ). IsPermutation (meta_columns 2 t) (map columns_3 (new.trees 0))) same after;
-      deposits = subst (λ (rows : List Row). IsPermutation (deposit_rows 1 list) (map columns_5 rows)) (sym put.deposits) was.deposits;
-      files = was.files;
-      each = was.each;
-      named = was.named;
-      apart = was.apart;
-      few = was.few;
-      lines = λ k. subst (λ (rows : List Row). IsPermutation (file_lines (slice_get was.files k)) (rows_under (k + 1) (map columns_5 rows))) (sym put.lines) (was.lines k);
-      steps = λ k. subst (λ (rows : List Row). IsPermutation (file_steps (slice_get was.files k)) (rows_under (k + 1) (map columns_3 rows))) (sym put.steps) (was.steps k);
-    }
+    holds = holds_same Second dictionary old new list was put.schema put.sound
+        (subst (λ (t : List ℕ). IsPermutation (meta_columns 2 t) (map columns_3 (new.trees 0))) same after) put.deposits put.lines put.steps
 
 -- meta is read, the tables are changed, and meta is read again
 pub raised_inside : (a b c e : State) (text : List ℕ) (before after : List Row) → Inside (λ old new. new ≡ old) a b → Inside AddsWithdrawals b c → Inside (λ old new. new ≡ old) c e
@@ -262,31 +247,11 @@ pub read_inside : {X : Type 0} (items : X → List Row) (old new : State) (r : R
     → OnOk r (Inside (λ old new. new ≡ old) old new)
 read_inside items old new (Err e) first inside h = tt
 read_inside items old new (Ok x) first inside h =
-    let it = (shown_same select_meta old new [] (items x) (asks_meta old.now.schema first).1 h).0 in record { change = it.now_is; goes_on = subst IsTrue (sym it.mode) inside; is_open = it.is_open; committed = it.committed_is }
-
-kept : (old new : State) → IsUnchanged old new → KeepsCommit old new
-kept old new h = record { was_open = λ o. h.0.was_open; committed = λ o. h.0.committed_is }
-
-back : (old new : State) → IsRolledBack old new → KeepsCommit old new
-back old new h = record { was_open = h.was_open; committed = λ o. (h.undone o).1 }
-
-not_run : (sql : List ℕ) (params : Row) (old new : State) (e : Error) → IsNotRun old new sql params e → KeepsCommit old new
-unfolding IsNotRun
-not_run sql params old new e (inl h) = kept old new h.1
-not_run sql params old new e (inr h) = back old new h.3
-
-fails_inside : (sql : List ℕ) (params : Row) (old new : State) (e : Error) → FailsToQuery sql params old new e ⊎ IsTooLate sql params old new e → KeepsCommit old new
-unfolding FailsToQuery
-fails_inside sql params old new e (inr h) = kept old new h.5
-fails_inside sql params old new e (inl (inl h)) = not_run sql params old new e h
-fails_inside sql params old new e (inl (inr h)) = shows h.0.returning h.2
-  where
-    shows : (r : Option Returning) → FailsToShow old new sql h.0 (timed params h.0.formats h.1.now) e r → KeepsCommit old new
-    shows None f = kept old new f.3
-    shows (Some what) (inl f) = kept old new f.1
-    shows (Some what) (inr f) = back old new f.3
+    let it = (shown_same select_meta old new [] (items x) (all_meta_read old.now.schema first).plain h).0 in
+    record { change = it.now_is; goes_on = subst IsTrue (sym it.mode) inside; is_open = it.is_open; committed = it.committed_is }
 
 pub read_keeps : {X : Type 0} (items : X → List Row) (old new : State) (r : Result X Error) → StartsWithMeta old.now.schema → IfOk r (λ x. Shown select_meta [] old new (items x))
     → IfErr r (λ e. FailsToQuery select_meta [] old new e ⊎ IsTooLate select_meta [] old new e) → KeepsCommit old new
-read_keeps items old new (Ok x) first h f = kept old new (shown_same select_meta old new [] (items x) (asks_meta old.now.schema first).1 h)
-read_keeps items old new (Err e) first h f = fails_inside select_meta [] old new e f
+read_keeps items old new (Ok x) first h f = kept_either old new (inl (shown_same select_meta old new [] (items x) (all_meta_read old.now.schema first).plain h))
+read_keeps items old new (Err e) first h (inl f) = kept_either old new (fails_so select_meta [] old new e f)
+read_keeps items old new (Err e) first h (inr f) = kept_either old new (inl f.5)

@@ -1,9 +1,9 @@
 -- The row of PROJ of a deposit, and the targets of a row, from what the queries show.
-use Rattle.std.proofs.Common.{◌≡◌, ℕ, zero, suc, ◌+◌, ◌-◌, ◌<◌, pos, List, [], ◌∷◌, map, take, Bool, true, false, if◌then◌else◌, Option, Some, Ok, Err, Result, IfOk, sym, ap, ◌∙◌}
+use Rattle.std.proofs.Common.{◌≡◌, ℕ, zero, suc, ◌+◌, ◌-◌, ◌<◌, pos, List, [], ◌∷◌, map, take, Bool, true, false, if◌then◌else◌, Option, Some, Result, IfOk, sym, ◌∙◌}
 use Rattle.std.specs.Prelude.{◌==◌, codes, slice_get}
 use Rattle.std.specs.Str.{bytes_eq}
 use Rattle.std.specs.List.Sorted.{IsPermutation}
-use Rattle.std.proofs.Math.Logic.{∥∥₁_elim}
+use Rattle.std.proofs.lemmas.Result.{IfOk-weaker}
 use Rattle.std.proofs.Props.{props}
 use Rattle.sqlite.specs.declared.types.Value.TheVariants.{Int}
 use Rattle.sqlite.specs.Order.{Row}
@@ -12,8 +12,6 @@ use Rattle.sqlite.specs.Tree.{IsAscending}
 use Rattle.ags_dict.specs.Entries.{Entries}
 use Rattle.ags_links.specs.Steps.{IsBefore}
 use Rattle.ags_check.specs.Findings.{CheckedFile}
-use Rattle.ags_rows.specs.declared.rows.Group.{Group}
-use Rattle.ags_links.specs.Walks.{StepGraph}
 use Rattle.reg_store.specs.declared.keep.KeptRow.{KeptRow}
 use Rattle.reg_store.specs.declared.keep.ProjectRow.{ProjectRow}
 use Rattle.reg_store.specs.declared.keep.KeepError.{KeepError}
@@ -28,7 +26,7 @@ use Rattle.reg_store.specs.Project.{project_from, project_of, targets_of}
 use Rattle.reg_tables.proofs.ReadsProjectLaws.{reads_front, reads_targets, same_targets}
 use Rattle.reg_tables.specs.ReadsProject.{target_cell}
 use Rattle.reg_tables.proofs.ReadsStepsLaws.{same_places}
-use Rattle.reg_tables.proofs.MethodsLaws.{held_file, same_file, graph_ascends}
+use Rattle.reg_tables.proofs.MethodsLaws.{graph_ascends, of_file}
 
 -- ---- what is shown
 
@@ -74,18 +72,11 @@ targets_set a b = Prim.hlevel props
 pub project_at : {s : State} {dictionary : Entries} {count : ℕ} (n : ℕ) (r : Result (Option ProjectRow) KeepError) → 0 < n → ∥ KeepsRegister s dictionary count ∥₁
     → IfOk r (λ found. (rows : List KeptRow) → IsPermutation (placed_rows 0 rows) (rows_under n (line_table s.now.trees)) → found ≡ project_of rows)
     → IfOk r (λ found. (d : Sent) (file : CheckedFile) → slice_get (sents (deposits_in s.committed.trees)) (n - 1) ≡ Some d → IsFileOf dictionary d file → found ≡ project_of (kept_rows file.groups))
-project_at {s} {dictionary} {count} n (Ok found) low h ok = λ d file at its.
-    let read : (k : KeepsRegister s dictionary count) → found ≡ project_of (kept_rows file.groups) = λ k.
-    (let held = held_file n d k low at in ok (kept_rows held.0.groups) held.2 ∙ ap (λ (groups : List Group). project_of (kept_rows groups)) (same_file dictionary d held.0 file held.1 its).0) in
-    let same : found ≡ project_of (kept_rows file.groups) = ∥∥₁_elim h (row_set _ _) read in same
-project_at n (Err e) low h ok = tt
+project_at n r low h ok = of_file (λ found. found) (λ file. project_of (kept_rows file.groups)) row_set n r low h
+    (IfOk-weaker r _ _ (λ found read d file its lines steps. read (kept_rows file.groups) lines) ok)
 
 pub targets_at : {X : Type 0} (items : X → List ℕ) {s : State} {dictionary : Entries} {count : ℕ} (n row : ℕ) (r : Result X KeepError) → 0 < n → ∥ KeepsRegister s dictionary count ∥₁
     → IfOk r (λ x. (steps : List (ℕ × ℕ)) → IsAscending IsBefore steps → IsPermutation (map step_pair steps) (rows_under n (step_table s.now.trees)) → items x ≡ targets_of row steps)
     → IfOk r (λ x. (d : Sent) (file : CheckedFile) → slice_get (sents (deposits_in s.committed.trees)) (n - 1) ≡ Some d → IsFileOf dictionary d file → items x ≡ targets_of row file.graph.steps)
-targets_at items {s} {dictionary} {count} n row (Ok x) low h ok = λ d file at its.
-    let read : (k : KeepsRegister s dictionary count) → items x ≡ targets_of row file.graph.steps = λ k.
-    (let held = held_file n d k low at in
-    ok held.0.graph.steps (graph_ascends held.0 held.1.clean.graph) held.3 ∙ ap (λ (graph : StepGraph). targets_of row graph.steps) (same_file dictionary d held.0 file held.1 its).1) in
-    let same : items x ≡ targets_of row file.graph.steps = ∥∥₁_elim h (targets_set _ _) read in same
-targets_at items n row (Err e) low h ok = tt
+targets_at items n row r low h ok = of_file items (λ file. targets_of row file.graph.steps) targets_set n r low h
+    (IfOk-weaker r _ _ (λ x read d file its lines steps. read file.graph.steps (graph_ascends file its.clean.graph) steps) ok)

@@ -56,7 +56,8 @@ rows_more m old more new h = subst (λ rows. IsPermutation rows (rows_under m ne
     (filter-append (is_of m) old more) ∙ map-append (drop 1) (filter (is_of m) old) (filter (is_of m) more))
     (IsPermutation-map (drop 1) _ _ (IsPermutation-filter (is_of m) (old ++ more) new h))
 
-pushed_get : {X : Type 0} (xs : List X) (x : X) (k : ℕ) → k ≢ length xs → slice_get (xs ++ x ∷ []) k ≡ slice_get xs k
+-- an item more at the end leaves what is at other places
+pub pushed_get : {X : Type 0} (xs : List X) (x : X) (k : ℕ) → k ≢ length xs → slice_get (xs ++ x ∷ []) k ≡ slice_get xs k
 pushed_get [] x zero differ = absurd (differ refl)
 pushed_get [] x (suc k) differ = refl
 pushed_get (y ∷ xs) x zero differ = refl

@@ -1,5 +1,6 @@
 -- What a query of the register leaves of a connection.
-use Rattle.std.proofs.Common.{◌≡◌, refl, ap, ℕ, List, [], Bool, true, false, Option, Some, None, Ok, Err, Result, IfOk, IfErr, OnOk, IsTrue, inl, inr, sym, subst, ◌∙◌, arith}
+use Rattle.std.proofs.Common.{◌≡◌, refl, ap, ℕ, List, [], Bool, true, false, Option, Some, None, ◌⊎◌, Ok, Err, Result, IfOk, IfErr, OnOk, IsTrue, inl, inr, sym, subst, ◌∙◌, arith}
+use Rattle.std.proofs.lemmas.Result.{IfOk-weaker}
 use Rattle.sqlite.specs.Order.{Row}
 use Rattle.sqlite.specs.declared.error.Error.{Error}
 use Rattle.sqlite.specs.declared.error.Error.TheVariants.{SqlInputError}
@@ -10,7 +11,7 @@ use Rattle.sqlite.specs.Clock.{timed}
 use Rattle.sqlite.specs.Tree.{Trees}
 use Rattle.sqlite.specs.Effect.{Database}
 use Rattle.sqlite.specs.Listing.{understood, reads_listing, IsSourceOf}
-use Rattle.sqlite.specs.State.{State, Shown, ShowsRows, IsUnchanged, HasCleanDisk, Survives, store_error, CommitsShowing, FailsToQuery, IsNotRun, FailsToShow}
+use Rattle.sqlite.specs.State.{State, Shown, ShowsRows, IsRolledBack, IsUnchanged, HasCleanDisk, Survives, store_error, CommitsShowing, FailsToQuery, IsNotRun, FailsToShow}
 use Rattle.sqlite.proofs.StateLemmas.{survives_weaker, survives_then}
 use Rattle.sqlite.proofs.Callers.{IsPlain, never_commits, unchanged_then}
 use Rattle.reg_tables.specs.Tables.{HasTables}
@@ -23,27 +24,35 @@ use Rattle.reg_tables.specs.declared.error.AdoptError.{AdoptError}
 use Rattle.reg_tables.specs.declared.error.AdoptError.TheVariants.{NoMemory, Store}
 use Rattle.reg_tables.specs.Adoption.{adopt_error, is_store_failure}
 use Rattle.reg_tables.specs.Quiet.{IsAsBefore, IsStill}
-use Rattle.reg_tables.proofs.QuietLaws.{clean_before, quiet_read}
+use Rattle.reg_tables.proofs.QuietLaws.{clean_before, quiet_read, survives_same}
 
 pub plain_at : (sql : List ℕ) (s : State) → IsPlainText sql → HasTables s.now.schema → IsPlain (understood s.now.schema sql)
 plain_at sql s plain has = plain s.now.schema has
 
--- what is not run leaves what was committed, where that was all
-not_run : (sql : List ℕ) (params : Row) (old new : State) (e : Error) → (IsTrue old.is_open → old.committed ≡ old.now) → IsTrue new.is_open → IsNotRun old new sql params e → IsAsBefore old new
+-- what is not run leaves the connection unchanged, or rolled back
+not_run : (sql : List ℕ) (params : Row) (old new : State) (e : Error) → IsNotRun old new sql params e → IsUnchanged old new ⊎ IsRolledBack old new
 unfolding IsNotRun
-not_run sql params old new e settled is_open (inl h) = (h.1.0.was_open, h.1.0.now_is, h.1.0.committed_is)
-not_run sql params old new e settled is_open (inr h) = let u = h.3.undone is_open in let was = h.3.was_open is_open in (was, u.0 ∙ settled was, u.1)
+not_run sql params old new e (inl h) = inl h.1
+not_run sql params old new e (inr h) = inr h.3
 
 -- so does a query that fails
-pub fails_keeps : (sql : List ℕ) (params : Row) (old new : State) (e : Error) → (IsTrue old.is_open → old.committed ≡ old.now) → IsTrue new.is_open → FailsToQuery sql params old new e → IsAsBefore old new
+pub fails_so : (sql : List ℕ) (params : Row) (old new : State) (e : Error) → FailsToQuery sql params old new e → IsUnchanged old new ⊎ IsRolledBack old new
 unfolding FailsToQuery
-fails_keeps sql params old new e settled is_open (inl h) = not_run sql params old new e settled is_open h
-fails_keeps sql params old new e settled is_open (inr h) = shows h.0.returning h.2
+fails_so sql params old new e (inl h) = not_run sql params old new e h
+fails_so sql params old new e (inr h) = shows h.0.returning h.2
   where
-    shows : (r : Option Returning) → FailsToShow old new sql h.0 (timed params h.0.formats h.1.now) e r → IsAsBefore old new
-    shows None f = (f.3.0.was_open, f.3.0.now_is, f.3.0.committed_is)
-    shows (Some what) (inl f) = (f.1.0.was_open, f.1.0.now_is, f.1.0.committed_is)
-    shows (Some what) (inr f) = let u = f.3.undone is_open in let was = f.3.was_open is_open in (was, u.0 ∙ settled was, u.1)
+    shows : (r : Option Returning) → FailsToShow old new sql h.0 (timed params h.0.formats h.1.now) e r → IsUnchanged old new ⊎ IsRolledBack old new
+    shows None f = inl f.3
+    shows (Some what) (inl f) = inl f.1
+    shows (Some what) (inr f) = inr f.3
+
+-- either leaves what was committed, where that was all
+as_before : (old new : State) → (IsTrue old.is_open → old.committed ≡ old.now) → IsTrue new.is_open → IsUnchanged old new ⊎ IsRolledBack old new → IsAsBefore old new
+as_before old new settled is_open (inl same) = (same.0.was_open, same.0.now_is, same.0.committed_is)
+as_before old new settled is_open (inr back) = let u = back.undone is_open in let was = back.was_open is_open in (was, u.0 ∙ settled was, u.1)
+
+pub fails_keeps : (sql : List ℕ) (params : Row) (old new : State) (e : Error) → (IsTrue old.is_open → old.committed ≡ old.now) → IsTrue new.is_open → FailsToQuery sql params old new e → IsAsBefore old new
+fails_keeps sql params old new e settled is_open h = as_before old new settled is_open (fails_so sql params old new e h)
 
 pub shown_same : (sql : List ℕ) (old new : State) (params : Row) (rows : List Row) → IsPlain (understood old.now.schema sql) → Shown sql params old new rows → IsUnchanged old new
 unfolding Shown
@@ -70,27 +79,18 @@ module _ (sql : List ℕ) where
   asks_quietly old new params plain s =
       survives_weaker old new _ _ (λ clean db. never_commits sql params old db (plain (omega (arith, s.clean)))) s
 
-  module _ {X : Type 0} (items : X → List Row) (old new : State) (r : Result X Error) (plain : IsPlain (understood old.now.schema sql)) (params : Row) where
-    pub opened_by : IfOk r (λ x. Shown sql params old new (items x)) → OnOk r (IsTrue new.is_open)
-    opened_by h = go r h
-      where
-        go : (s : Result X Error) → IfOk s (λ x. Shown sql params old new (items x)) → OnOk s (IsTrue new.is_open)
-        go (Ok x) h = (shown_same sql old new params (items x) plain h).0.is_open
-        go (Err e) h = tt
+  module _ {X : Type 0} (items : X → List Row) (old new : State) (plain : IsPlain (understood old.now.schema sql)) (params : Row) where
+    pub opened_by : (r : Result X Error) → IfOk r (λ x. Shown sql params old new (items x)) → OnOk r (IsTrue new.is_open)
+    opened_by r h = IfOk-weaker r _ (λ _. IsTrue new.is_open) (λ x shown. (shown_same sql old new params (items x) plain shown).0.is_open) h
 
-    pub same_by : (IsTrue old.is_open → old.committed ≡ old.now) → IsTrue new.is_open → IfOk r (λ x. Shown sql params old new (items x)) → IfErr r (FailsToQuery sql params old new) → IsAsBefore old new
-    same_by settled is_open ok err = go r ok err
-      where
-        go : (s : Result X Error) → IfOk s (λ x. Shown sql params old new (items x)) → IfErr s (FailsToQuery sql params old new) → IsAsBefore old new
-        go (Ok x) h f = let it = (shown_same sql old new params (items x) plain h).0 in (it.was_open, it.now_is, it.committed_is)
-        go (Err e) h f = fails_keeps sql params old new e settled is_open f
+    pub same_by : (r : Result X Error) → (IsTrue old.is_open → old.committed ≡ old.now) → IsTrue new.is_open → IfOk r (λ x. Shown sql params old new (items x))
+        → IfErr r (FailsToQuery sql params old new) → IsAsBefore old new
+    same_by (Ok x) settled is_open h f = as_before old new settled is_open (inl (shown_same sql old new params (items x) plain h))
+    same_by (Err e) settled is_open h f = fails_keeps sql params old new e settled is_open f
 
 -- no call, no crash
 pub survives_none : (s : State) → Survives s s (λ _. ⊥)
-survives_none s = record { clean = omega arith; shield = λ is. is; counts = omega arith; limit = refl; closes = λ clean o. inl o; crash = λ clean db may. inl may }
-
-pub survives_same : {P : Trees → Type 0} (s : State) → Survives s s P
-survives_same s = record { clean = omega arith; shield = λ is. is; counts = omega arith; limit = refl; closes = λ clean o. inl o; crash = λ clean db may. inl may }
+survives_none s = survives_same s
 
 pub both_open : {a b : Bool} → IsTrue a → IsTrue b → a ≡ b
 both_open p q = p ∙ sym q
@@ -108,8 +108,8 @@ ok_quiet old new idle is_open stays survives = record {
 -- a text that is only prepared leaves it too
 pub probed : {X : Type 0} (P : X → Type 0) (sql : List ℕ) (old new : State) (r : Result X Error) → IfOk r (λ x. P x × IsUnchanged old new) → IfErr r (λ e. (params : Row) → IsNotRun old new sql params e)
     → (IsTrue old.is_open → old.committed ≡ old.now) → IsTrue new.is_open → IsAsBefore old new
-probed P sql old new (Ok x) ok err settled is_open = (ok.1.0.was_open, ok.1.0.now_is, ok.1.0.committed_is)
-probed P sql old new (Err e) ok err settled is_open = not_run sql [] old new e settled is_open (err [])
+probed P sql old new (Ok x) ok err settled is_open = as_before old new settled is_open (inl ok.1)
+probed P sql old new (Err e) ok err settled is_open = as_before old new settled is_open (not_run sql [] old new e (err []))
 
 -- the error is that of a text that is no statement
 abbrev pub is_input : Error → Bool
@@ -118,11 +118,7 @@ is_input _ = false
 
 no_fault : (cause : StoreError) → is_input (store_error cause) ≡ false
 no_fault faults.OutOfMemory = refl
-no_fault faults.Io = refl
-no_fault faults.Corrupt = refl
-no_fault faults.Full = refl
-no_fault faults.Broken = refl
-no_fault faults.Unstorable = refl
+no_fault cause = refl
 
 -- a text that is refused as no statement changes nothing
 pub refused_text : (sql : List ℕ) (old new : State) (e : Error) → ((params : Row) → IsNotRun old new sql params e) → is_input e ≡ true → IsUnchanged old new
@@ -171,9 +167,8 @@ refused_quiet old mid new failed mode stays one unchanged probe two = record {
 
 -- what is said of both answers to a fault is said of its answer
 pub fault_is : (P : AdoptError → Type 0) (e : KeepError) (a : AdoptError) → a ≡ adopt_error e → P Store → P NoMemory → P a
-fault_is P keep.Full a is store memory = subst P (sym is) store
-fault_is P keep.Store a is store memory = subst P (sym is) store
 fault_is P keep.NoMemory a is store memory = subst P (sym is) memory
+fault_is P e a is store memory = subst P (sym is) store
 
 -- the answer is `Store` where the call failed with `Store`
 pub fault_quiet : (old new : State) (e : KeepError) (a : AdoptError) → a ≡ adopt_error e → IsStill old new (is_store e) → IsStill old new (is_store_failure a)

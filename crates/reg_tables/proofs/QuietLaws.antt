@@ -32,6 +32,10 @@ quiet_read old new failed quiet = record {
   survives = quiet.survives;
 }
 
+-- no call, no crash
+pub survives_same : {P : Trees → Type 0} (s : State) → Survives s s P
+survives_same s = record { clean = omega arith; shield = λ is. is; counts = omega arith; limit = refl; closes = λ clean o. inl o; crash = λ clean db may. inl may }
+
 -- no call, no change
 pub quiet_none : (s : State) (failed : Bool) → s.in_transaction ≡ false → IsStill s s failed
 quiet_none s failed idle = record {
@@ -39,14 +43,7 @@ quiet_none s failed idle = record {
   is_open = λ clean _. refl;
   same = λ clean _. (refl, refl);
   still = λ clean o. (o, refl, refl);
-  survives = record {
-    clean = omega arith;
-    shield = λ is. is;
-    counts = omega arith;
-    limit = refl;
-    closes = λ clean o. inl o;
-    crash = λ clean db may. inl may;
-  };
+  survives = survives_same s;
 }
 
 pub quiet_then : (a b c : State) (failed : Bool) → IsStill a b false → IsStill b c failed → IsStill a c failed

@@ -1,7 +1,7 @@
 -- Lemmas on the definitions of specs/ReadBack.antt.
-use Rattle.std.proofs.Common.{◌≡◌, ◌≢◌, ◌==◌, ℕ, ◌+◌, ◌-◌, ◌<◌, List, [], ◌∷◌, ◌++◌, map, length, true, false, Some}
-use Rattle.std.proofs.Common.{slice_get, refl, sym, ap, subst, ◌∙◌}
-use Rattle.std.proofs.lemmas.Bool.{eq-eqb}
+use Rattle.std.proofs.Common.{◌≡◌, ℕ, ◌+◌, ◌-◌, ◌<◌, List, [], ◌∷◌, ◌++◌, map, length, false, Some}
+use Rattle.std.proofs.Common.{slice_get, refl, sym, subst, ◌∙◌}
+use Rattle.std.proofs.lemmas.Bool.{eqb-false}
 use Rattle.std.specs.List.Sorted.{IsPermutation}
 use Rattle.std.proofs.lemmas.List.Sorted.{IsPermutation-append_left, IsPermutation-refl, IsPermutation-sym}
 use Rattle.std.proofs.lemmas.List.Sorted.{IsPermutation-trans}
@@ -12,6 +12,8 @@ use Rattle.ags_check.specs.Findings.{CheckedFile}
 use Rattle.reg_store.specs.Fit.{kept_rows}
 use Rattle.reg_store.specs.Sent.{Sent}
 use Rattle.reg_store.specs.Deposit.{Deposit, marked, sents, sents_marked, unmarked}
+use Rattle.reg_tables.specs.declared.schema.format.Format.{Format}
+use Rattle.reg_tables.specs.Tables.{format_number, schema_of}
 use Rattle.reg_tables.specs.declared.schema.format.Format.TheVariants.{First, Second}
 use Rattle.reg_tables.specs.Rows.{columns_3, columns_5, mark_column, mark_row, rows_under}
 use Rattle.reg_tables.specs.Inserts.{AddsFile, AddsMark}
@@ -41,34 +43,34 @@ register_push dictionary old new list d file count was counted low put sound rea
       (sym put.marks) was.marks);
 }
 
--- a mark changes none of what both formats have
-holds_mark : (dictionary : Entries) (n : ℕ) (old new : Database) (list : List Sent)
-    → HoldsSent Second old dictionary list → AddsMark n old new → HoldsSent Second new dictionary list
-holds_mark dictionary n old new list was put = record {
-  schema = put.schema;
-  sound = put.sound;
+-- Tables of a format hold what others hold, where their meta has the same bytes, and the tables of both formats are the same.
+pub holds_same : {before : Format} (after : Format) (dictionary : Entries) (old new : Database) (list : List Sent) (was : HoldsSent before old dictionary list)
+    → new.schema ≡ schema_of after → IsDatabase new → IsPermutation (meta_columns (format_number after) was.text) (map columns_3 (new.trees 0))
+    → new.trees 2 ≡ old.trees 2 → new.trees 4 ≡ old.trees 4 → new.trees 6 ≡ old.trees 6 → HoldsSent after new dictionary list
+holds_same after dictionary old new list was schema sound meta deposits lines steps = record {
+  schema = schema;
+  sound = sound;
   text = was.text;
   short = was.short;
   reads = was.reads;
-  meta = subst (λ (rows : List Row). IsPermutation (meta_columns 2 was.text) (map columns_3 rows))
-      (sym (put.others.0 (apart 0 8 refl))) was.meta;
-  deposits = subst (λ (rows : List Row). IsPermutation (deposit_rows 1 list) (map columns_5 rows))
-      (sym (put.others.1.0 (apart 2 8 refl))) was.deposits;
+  meta = meta;
+  deposits = subst (λ (rows : List Row). IsPermutation (deposit_rows 1 list) (map columns_5 rows)) (sym deposits) was.deposits;
   files = was.files;
   each = was.each;
   named = was.named;
   apart = was.apart;
   few = was.few;
-  lines = λ k. (let same = put.others.1.1.0 (apart 4 8 refl) in
-      subst (λ (rows : List Row). IsPermutation (file_lines (slice_get was.files k)) (rows_under (k + 1) rows))
-      (ap (map columns_5) (sym same)) (was.lines k));
-  steps = λ k. (let same = put.others.1.1.1.0 (apart 6 8 refl) in
-      subst (λ (rows : List Row). IsPermutation (file_steps (slice_get was.files k)) (rows_under (k + 1) rows))
-      (ap (map columns_3) (sym same)) (was.steps k));
+  lines = λ k. subst (λ (rows : List Row). IsPermutation (file_lines (slice_get was.files k)) (rows_under (k + 1) (map columns_5 rows))) (sym lines) (was.lines k);
+  steps = λ k. subst (λ (rows : List Row). IsPermutation (file_steps (slice_get was.files k)) (rows_under (k + 1) (map columns_3 rows))) (sym steps) (was.steps k);
 }
-  where
-    apart : (m n : ℕ) → (m == n) ≡ false → m ≢ n
-    apart m n differ same = absurd (let clash : true ≡ false = sym (eq-eqb m n same) ∙ differ in cc)
+
+-- a mark changes none of what both formats have
+holds_mark : (dictionary : Entries) (n : ℕ) (old new : Database) (list : List Sent)
+    → HoldsSent Second old dictionary list → AddsMark n old new → HoldsSent Second new dictionary list
+holds_mark dictionary n old new list was put =
+    let meta = subst (λ (rows : List Row). IsPermutation (meta_columns 2 was.text) (map columns_3 rows)) (sym (put.others.0 (eqb-false 0 8 refl))) was.meta in
+    holds_same Second dictionary old new list was put.schema put.sound meta
+    (put.others.1.0 (eqb-false 2 8 refl)) (put.others.1.1.0 (eqb-false 4 8 refl)) (put.others.1.1.1.0 (eqb-false 6 8 refl))
 
 pub register_mark : (dictionary : Entries) (old new : Database) (list : List Deposit) (n : ℕ) (d : Deposit)
     → IsRegister old dictionary list → 0 < n → slice_get list (n - 1) ≡ Some d → d.withdrawn ≡ false

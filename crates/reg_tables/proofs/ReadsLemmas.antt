@@ -4,7 +4,7 @@ use Rattle.ags_dict.specs.Entries.{Entries}
 use Rattle.sqlite.specs.Effect.{Database}
 use Rattle.sqlite.specs.State.{State, HasCleanDisk}
 use Rattle.reg_store.specs.Keep.{Reads}
-use Rattle.reg_tables.proofs.KeepLaws.{crash_same, whole_same}
+use Rattle.reg_tables.proofs.KeepLaws.{left_same}
 use Rattle.reg_tables.specs.Quiet.{IsStill}
 use Rattle.reg_tables.proofs.QuietLaws.{clean_before}
 use Rattle.reg_tables.specs.Register.{deposits_in, text_in, LeavesBroken, LeavesList}
@@ -20,6 +20,6 @@ module _ {K : Type 0} (held : K → State) (dictionary : K → Entries) (limit :
     failing = failing;
     same = λ clean well. ap (λ (db : Database). deposits_in db.trees) (still.same clean well).1;
     same_text = λ clean well. ap (λ (db : Database). text_in db.trees) (still.same clean well).1;
-    crash = λ clean list left. crash_same (held old) (held new) still.survives clean list (subst (λ (d : Entries). LeavesList (held new).may_leave d list) same left);
-    whole = λ clean left. whole_same (held old) (held new) still.survives clean (subst (λ (d : Entries). LeavesBroken (held new).may_leave d) same left);
+    crash = λ clean list left. left_same (held old) (held new) still.survives clean _ (subst (λ (d : Entries). LeavesList (held new).may_leave d list) same left);
+    whole = λ clean left. left_same (held old) (held new) still.survives clean _ (subst (λ (d : Entries). LeavesBroken (held new).may_leave d) same left);
   }

@@ -1,15 +1,13 @@
 -- Lemmas on the definitions of specs/ReadsProject.antt.
 use Rattle.std.proofs.Common.{◌≡◌, ℕ, zero, suc, ◌+◌, ◌<◌, ◌≤◌, pos, List, [], ◌∷◌, map, filter, take, Bool, true}
-use Rattle.std.proofs.Common.{false, ◌&&◌, ◌==◌, if◌then◌else◌, refl, sym, ap, subst, ◌∙◌, arith, Less, Equal, inl, inr}
+use Rattle.std.proofs.Common.{false, ◌&&◌, ◌==◌, if◌then◌else◌, refl, sym, ap, subst, subst₂, ◌∙◌, arith, Less, Equal, inl, inr}
 use Rattle.std.proofs.Common.{drop}
 use Rattle.std.specs.List.{AllByRecursion}
 use Rattle.std.specs.List.Sorted.{IsPermutation}
 use Rattle.std.specs.Ordering.{is_eq, is_lt, ordering_then}
-use Rattle.std.proofs.lemmas.Cmp.{on_total}
 use Rattle.std.proofs.lemmas.Int.{ints}
 use Rattle.std.proofs.lemmas.Bool.{eqb-true, eqb-false}
 use Rattle.std.proofs.lemmas.Bool.Decides.{nat_tests}
-use Rattle.std.proofs.lemmas.List.Sorted.{IsPermutation-map, IsPermutation-trans}
 use Rattle.sqlite.specs.declared.types.Value.TheVariants.{Int}
 use Rattle.sqlite.specs.Order.{Row, column, value_cmp}
 use Rattle.sqlite.specs.Collation.TheVariants.{Binary}
@@ -20,8 +18,6 @@ use Rattle.sqlite.specs.Tree.{IsAscending}
 use Rattle.sqlite.specs.Query.{Output, output_cmp}
 use Rattle.sqlite.specs.State.{State, Shown}
 use Rattle.sqlite_value.proofs.OrderLemmas.{value_cmp-Int}
-use Rattle.sqlite_sql.proofs.QueryLemmas.{key_cmp_total}
-use Rattle.sqlite_keyed.proofs.SortLemmas.{sorted_unique}
 use Rattle.sqlite_keyed.proofs.ListLemmas.{IsPermutation-filter, ascending-map, ascending_weaker}
 use Rattle.ags_links.specs.Steps.{IsBefore}
 use Rattle.reg_store.specs.declared.keep.KeptRow.{KeptRow}
@@ -33,9 +29,8 @@ use Rattle.reg_tables.specs.Pushes.{equal_at, apart_at}
 use Rattle.reg_tables.specs.Rows.{columns_3, columns_5, line_table, step_table, placed_row, placed_rows, step_pair}
 use Rattle.reg_tables.specs.Rows.{is_of, rows_under}
 use Rattle.reg_store.specs.Project.{targets_of}
-use Rattle.reg_tables.proofs.AnswersLaws.{passes, shown_of, answers}
-use Rattle.reg_tables.proofs.ReadsLaws.{and_true, eq_int, truth_is, line_entries, lines_are_entries, line_entries_show}
-use Rattle.reg_tables.proofs.ReadsLaws.{lines_rise, by_seq}
+use Rattle.reg_tables.proofs.AnswersLaws.{answers, passes, reads_rows}
+use Rattle.reg_tables.proofs.ReadsLaws.{and_true, by_seq, eq_int, lines_from, lines_show, of_number, rises, truth_is}
 use Rattle.reg_tables.proofs.ReadsStepsLaws.{nat_in}
 use Rattle.reg_tables.specs.ReadsProject.{target_cell}
 
@@ -67,28 +62,20 @@ early_rows (suc k) at [] e = refl
 early_rows (suc k) at (row ∷ rows) e = rw (early_at at row (omega (arith, e)))
     (ap (λ all. placed_row at row ∷ all) (early_rows k (at + 1) rows (omega (arith, e))))
 
-abbrev test_front : ℕ → Row → Bool
-test_front n = passes front_of_deposit.filter (Int (pos n) ∷ [])
-
-abbrev show_front : ℕ → Row → Output
-show_front n = shown_of 4 front_of_deposit.filter front_of_deposit.project front_of_deposit.order (Int (pos n) ∷ [])
-
-test_front_is : (n : ℕ) (r : Row) → test_front n r ≡ (is_of n (columns_5 r) && is_early (drop 1 (columns_5 r)))
+test_front_is : (n : ℕ) (r : Row) → passes front_of_deposit (Int (pos n) ∷ []) r ≡ (is_of n (columns_5 r) && is_early (drop 1 (columns_5 r)))
 test_front_is n r = ap (λ b. b && (is_early (drop 1 (columns_5 r)) && true)) (eq_int (column r 1) n)
     ∙ ap (λ b. is_of n (columns_5 r) && b) (and_true (is_early (drop 1 (columns_5 r))))
 
-front_selected : (n : ℕ) (rows : List Row)
-    → map (show_front n) (filter (test_front n) rows) ≡ map by_seq (filter is_early (rows_under n (map columns_5 rows)))
-front_selected n [] = refl
-front_selected n (r ∷ rows) =
-    rw (test_front_is n r) (go (is_of n (columns_5 r)) (is_early (drop 1 (columns_5 r))) refl (front_selected n rows))
+-- what passes a test, and its part another
+passed_both : (part : Row → Row) (p q : Row → Bool) (rows : List Row)
+    → filter q (map part (filter p rows)) ≡ map part (filter (λ r. p r && q (part r)) rows)
+passed_both part p q [] = refl
+passed_both part p q (r ∷ rows) = go (p r) (q (part r)) refl (passed_both part p q rows)
   where
-    go : (a b : Bool) → is_early (drop 1 (columns_5 r)) ≡ b → map (show_front n) (filter (test_front n) rows)
-        ≡ map by_seq (filter is_early (rows_under n (map columns_5 rows)))
-        → map (show_front n) (if a && b then r ∷ filter (test_front n) rows else filter (test_front n) rows)
-        ≡ map by_seq (filter is_early (map (drop 1) (if a then columns_5 r ∷ filter (is_of n) (map columns_5 rows)
-        else filter (is_of n) (map columns_5 rows))))
-    go true true e h = rw e (ap (λ all. show_front n r ∷ all) h)
+    go : (a b : Bool) → q (part r) ≡ b → filter q (map part (filter p rows)) ≡ map part (filter (λ r. p r && q (part r)) rows)
+        → filter q (map part (if a then r ∷ filter p rows else filter p rows))
+        ≡ map part (if a && b then r ∷ filter (λ r. p r && q (part r)) rows else filter (λ r. p r && q (part r)) rows)
+    go true true e h = rw e (ap (λ all. part r ∷ all) h)
     go true false e h = rw e h
     go false b e h = h
 
@@ -97,52 +84,22 @@ pub reads_front : (old new : State) (n : ℕ) (file : List KeptRow) (rows : List
     → IsPermutation (placed_rows 0 file) (rows_under n (line_table old.now.trees))
     → Shown select_front (Int (pos n) ∷ []) old new rows → rows ≡ placed_rows 0 (take 5 file)
 reads_front old new n file rows has holds h =
-    let front = take 5 file in
-    let a = answers select_front 4 front_of_deposit.filter front_of_deposit.project front_of_deposit.order _ front_read
-    old new (Int (pos n) ∷ []) rows refl has h in
-    let same : IsPermutation (map by_seq (filter is_early (rows_under n (line_table old.now.trees)))) a.ordered =
-    subst (λ all. IsPermutation all a.ordered) (front_selected n (old.now.trees 4)) a.same in
-    let early : IsPermutation (placed_rows 0 front) (filter is_early (rows_under n (line_table old.now.trees))) =
-    subst (λ all. IsPermutation all (filter is_early (rows_under n (line_table old.now.trees))))
-    (early_rows 5 0 file refl) (IsPermutation-filter is_early _ _ holds) in
-    let mine : IsPermutation (line_entries 0 front) a.ordered = subst (λ all. IsPermutation all a.ordered)
-    (lines_are_entries 0 front) (IsPermutation-trans _ _ _ (IsPermutation-map by_seq _ _ early) same) in
-    let ordered : a.ordered ≡ line_entries 0 front = sorted_unique (output_cmp front_of_deposit)
-    (on_total (λ (o : Output). o.0) (key_cmp_total (map (λ k. k.1) front_of_deposit.order) 0))
-    (line_entries 0 front) a.ordered (lines_rise 0 front) mine a.sorted in
-    a.shown ∙ ap (map (λ (o : Output). o.1)) ordered ∙ line_entries_show 0 front
+    let a = answers select_front 4 front_of_deposit _ old new (Int (pos n) ∷ []) rows (front_read old.now.schema has) refl h in
+    let early = subst₂ IsPermutation (early_rows 5 0 file refl) (passed_both (drop 1) (is_of n) is_early (line_table old.now.trees))
+    (IsPermutation-filter is_early _ _ holds) in
+    reads_rows a columns_5 (drop 1) by_seq (λ c. is_of n c && is_early (drop 1 c)) (test_front_is n) (λ _. refl)
+    (placed_rows 0 (take 5 file)) early
+    (rises by_seq (output_cmp front_of_deposit) (λ _ _. refl) 0 (placed_rows 0 (take 5 file)) (lines_from 0 (take 5 file)))
+    ∙ lines_show 0 (take 5 file)
 
 abbrev by_target : Row → Output
 by_target c = (column c 1 ∷ [], column c 1 ∷ [])
 
-abbrev test_target : ℕ → ℕ → Row → Bool
-test_target n row = passes targets_of_row.filter (Int (pos n) ∷ Int (pos row) ∷ [])
-
-abbrev show_target : ℕ → ℕ → Row → Output
-show_target n row =
-    shown_of 6 targets_of_row.filter targets_of_row.project targets_of_row.order (Int (pos n) ∷ Int (pos row) ∷ [])
-
 test_target_is : (n row : ℕ) (r : Row)
-    → test_target n row r ≡ (is_of n (columns_3 r) && is_of row (drop 1 (columns_3 r)))
+    → passes targets_of_row (Int (pos n) ∷ Int (pos row) ∷ []) r ≡ (is_of n (columns_3 r) && is_of row (drop 1 (columns_3 r)))
 test_target_is n row r =
     ap (λ b. b && (is_true (binary (Compare Eq Binary) (column r 2) (Int (pos row))) && true)) (eq_int (column r 1) n)
-    ∙ ap (λ b. is_of n (columns_3 r) && b) (and_true _ ∙ eq_int (column r 2) row)
-
-targets_selected : (n row : ℕ) (rows : List Row) → map (show_target n row) (filter (test_target n row) rows)
-    ≡ map by_target (filter (is_of row) (rows_under n (map columns_3 rows)))
-targets_selected n row [] = refl
-targets_selected n row (r ∷ rows) = rw (test_target_is n row r)
-    (go (is_of n (columns_3 r)) (is_of row (drop 1 (columns_3 r))) refl (targets_selected n row rows))
-  where
-    go : (a b : Bool) → is_of row (drop 1 (columns_3 r)) ≡ b → map (show_target n row) (filter (test_target n row) rows)
-        ≡ map by_target (filter (is_of row) (rows_under n (map columns_3 rows)))
-        → map (show_target n row) (if a && b then r ∷ filter (test_target n row) rows
-        else filter (test_target n row) rows)
-        ≡ map by_target (filter (is_of row) (map (drop 1) (if a then columns_3 r ∷ filter (is_of n) (map columns_3 rows)
-        else filter (is_of n) (map columns_3 rows))))
-    go true true e h = rw e (ap (λ all. show_target n row r ∷ all) h)
-    go true false e h = rw e h
-    go false b e h = h
+    ∙ ap (λ b. is_of n (columns_3 r) && b) (of_number (column r 2) row)
 
 abbrev target_entry : ℕ → Output
 target_entry target = (target_cell target, target_cell target)
@@ -214,19 +171,16 @@ pub reads_targets : (old new : State) (n row : ℕ) (steps : List (ℕ × ℕ)) 
     → Shown select_targets (Int (pos n) ∷ Int (pos row) ∷ []) old new rows
     → rows ≡ map target_cell (targets_of row steps)
 reads_targets old new n row steps rows has up holds h =
-    let targets = targets_of row steps in
-    let a = answers select_targets 6 targets_of_row.filter targets_of_row.project targets_of_row.order _ targets_read
-    old new (Int (pos n) ∷ Int (pos row) ∷ []) rows refl has h in
-    let same : IsPermutation (map by_target (filter (is_of row) (rows_under n (step_table old.now.trees)))) a.ordered =
-    subst (λ all. IsPermutation all a.ordered) (targets_selected n row (old.now.trees 6)) a.same in
-    let from = IsPermutation-map by_target _ _ (IsPermutation-filter (is_of row) _ _ holds) in
-    let mine : IsPermutation (map target_entry targets) a.ordered =
-    subst (λ all. IsPermutation all a.ordered) (targets_are_entries row steps) (IsPermutation-trans _ _ _ from same) in
-    let ordered : a.ordered ≡ map target_entry targets =
-    sorted_unique (output_cmp targets_of_row)
-    (on_total (λ (o : Output). o.0) (key_cmp_total (map (λ k. k.1) targets_of_row.order) 0))
-    (map target_entry targets) a.ordered (entries_rise targets (targets_rise row steps up)) mine a.sorted in
-    a.shown ∙ ap (map (λ (o : Output). o.1)) ordered ∙ target_entries_show targets
+    let params = Int (pos n) ∷ Int (pos row) ∷ [] in
+    let a = answers select_targets 6 targets_of_row _ old new params rows (targets_read old.now.schema has) refl h in
+    let from = filter (is_of row) (map step_pair steps) in
+    let held = subst (IsPermutation from) (passed_both (drop 1) (is_of n) (is_of row) (step_table old.now.trees))
+    (IsPermutation-filter (is_of row) _ _ holds) in
+    let its = targets_are_entries row steps in
+    let rise = subst (IsAscending (λ x y. output_cmp targets_of_row x y ≡ Less)) (sym its)
+    (entries_rise (targets_of row steps) (targets_rise row steps up)) in
+    reads_rows a columns_3 (drop 1) by_target (λ c. is_of n c && is_of row (drop 1 c)) (test_target_is n row) (λ _. refl) from held rise
+    ∙ ap (map (λ (o : Output). o.1)) its ∙ target_entries_show (targets_of row steps)
 
 -- ---- the rows of an answer give back the targets
 

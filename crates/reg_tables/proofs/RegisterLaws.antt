@@ -1,7 +1,7 @@
 -- Lemmas on the definitions of specs/RegisterLaws.antt.
 use Rattle.std.proofs.Common.{◌≡◌, ℕ, ◌+◌, ◌<◌, List, [], ◌∷◌, ◌++◌, map, length, length-append, None, refl, sym, subst}
 use Rattle.std.proofs.Common.{◌∙◌, arith}
-use Rattle.std.specs.List.{AllZip}
+use Rattle.sqlite_catalog.proofs.ListFacts.{zip_push}
 use Rattle.std.specs.List.Sorted.{IsPermutation}
 use Rattle.std.proofs.lemmas.Slice.Zip.{AllZip-long}
 use Rattle.sqlite_keyed.proofs.ListLemmas.{all-append}
@@ -17,13 +17,6 @@ use Rattle.reg_store.specs.Fit.{IsFileOf, IsNamed, kept_rows}
 use Rattle.reg_store.specs.ApartLaws.{apart_push}
 use Rattle.reg_tables.specs.Register.{meta_columns, file_lines, file_steps, HoldsSent}
 use Rattle.reg_tables.proofs.PushesLaws.{deposits_push, own_lines, other_lines, own_steps, other_steps, table_push}
-
-zip_push : {A B : Type 0} (R : A → B → Type 0) (xs : List A) (ys : List B) (x : A) (y : B) → AllZip R xs ys → R x y
-    → AllZip R (xs ++ x ∷ []) (ys ++ y ∷ [])
-zip_push R [] [] x y h r = (r, tt)
-zip_push R [] (b ∷ ys) x y h r = absurd h
-zip_push R (a ∷ xs) [] x y h r = absurd h
-zip_push R (a ∷ xs) (b ∷ ys) x y h r = (h.0, zip_push R xs ys x y h.1 r)
 
 -- what the adding of a deposit needs
 pub record IsReady (dictionary : Entries) (list : List Sent) (d : Sent) (file : CheckedFile) : Type 0 where

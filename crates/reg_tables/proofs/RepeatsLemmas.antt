@@ -1,5 +1,6 @@
 -- Numbers under digests, as they grow, and the repeats that are found by them.
 use Rattle.std.proofs.Common.{zero, suc, ◌≡◌, ℕ, ◌+◌, ◌-◌, ◌<◌, Bool, true, false, ◌||◌, eqb, cond, List, [], ◌∷◌, ◌++◌, length, take, get_or, Option, Some, None, IfSome, slice_get, Result, Ok, Err, IfOk, refl, sym, ap, subst, ◌∙◌, arith, inl, inr, ◌⊎◌}
+use Rattle.std.proofs.Math.Bool.{or-true}
 use Rattle.std.proofs.Math.Logic.{∥∥₁_elim}
 use Rattle.std.proofs.Props.{props}
 use Rattle.std.specs.List.{list_any, position_from}
@@ -8,9 +9,10 @@ use Rattle.std.specs.Prelude.{is_some}
 use Rattle.std.specs.BTreeMap.{BTreeMap, UpdatesBy, get_by}
 use Rattle.std.specs.Cmp.Lexicographic.{slice_cmp}
 use Rattle.std.specs.Option.{option_map_or}
-use Rattle.std.specs.Ordering.{is_eq, nat_cmp}
+use Rattle.std.specs.Ordering.{nat_cmp}
 use Rattle.std.specs.declared.alloc.Global.{Global}
 use Rattle.std.specs.declared.vec.Vec.{Vec}
+use Rattle.std.proofs.lemmas.Option.{slice_get_within}
 use Rattle.std.proofs.lemmas.Map.Text.{is_eq-slice_cmp}
 use Rattle.std.specs.Str.{bytes_eq}
 use Rattle.std.proofs.lemmas.Bool.{cases_lt, eq-eqb, eqb-true}
@@ -39,11 +41,7 @@ among_kept : (m n : ℕ) (xs : List ℕ) → is_among m xs ≡ true → is_among
 among_kept m n xs h = list_any-append (eqb m) xs (n ∷ []) ∙ rw h refl
 
 among_last : (n : ℕ) (xs : List ℕ) → is_among n (xs ++ n ∷ []) ≡ true
-among_last n xs = list_any-append (eqb n) xs (n ∷ []) ∙ rw (eq-eqb n n refl) (last (list_any (eqb n) xs))
-  where
-    last : (b : Bool) → (b || true) ≡ true
-    last true = refl
-    last false = refl
+among_last n xs = list_any-append (eqb n) xs (n ∷ []) ∙ rw (eq-eqb n n refl) (or-true (list_any (eqb n) xs))
 
 pub among_either : (m n : ℕ) (xs : List ℕ) → is_among m (xs ++ n ∷ []) ≡ true → (is_among m xs ≡ true) ⊎ (m ≡ n)
 among_either m n xs h = go (list_any (eqb m) xs) (eqb m n) refl refl (sym (list_any-append (eqb m) xs (n ∷ [])) ∙ h)
@@ -62,13 +60,11 @@ items_in o = option_map_or (λ v. v.items) o []
 pub noted : (held now : BTreeMap (List ℕ) (Vec ℕ Global)) (digest : List ℕ) (v : Vec ℕ Global) → UpdatesBy (slice_cmp nat_cmp) (slice_cmp nat_cmp digest) held now (Some v)
     → (other : List ℕ) → items_in (get_by (slice_cmp nat_cmp other) now) ≡ cond (bytes_eq digest other) v.items (items_in (get_by (slice_cmp nat_cmp other) held))
 noted held now digest v updates other =
-    ap items_in (updates.0 other) ∙ go (is_eq (slice_cmp nat_cmp digest other)) (bytes_eq digest other) (is_eq-slice_cmp digest other)
+    ap items_in (updates.0 other ∙ ap (λ b. cond b (Some v) (get_by (slice_cmp nat_cmp other) held)) (is_eq-slice_cmp digest other)) ∙ go (bytes_eq digest other)
   where
-    go : (a b : Bool) → a ≡ b → items_in (cond a (Some v) (get_by (slice_cmp nat_cmp other) held)) ≡ cond b v.items (items_in (get_by (slice_cmp nat_cmp other) held))
-    go true true e = refl
-    go true false e = absurd cc
-    go false true e = absurd cc
-    go false false e = refl
+    go : (b : Bool) → items_in (cond b (Some v) (get_by (slice_cmp nat_cmp other) held)) ≡ cond b v.items (items_in (get_by (slice_cmp nat_cmp other) held))
+    go true = refl
+    go false = refl
 
 nothing_there : (o : Option (Vec ℕ Global)) → is_some o ≡ false → items_in o ≡ []
 nothing_there None e = refl
@@ -155,12 +151,7 @@ below_same old new n same below digest m h = below digest m (sym (ap (is_among m
 pub digested_held : (db : Database) (digests : Digests) (list : List Sent) → IsPermutation (deposit_rows 1 list) (deposit_table db.trees) → HoldsDigests db (length list + 1) digests → AreDigested digests list
 digested_held db digests list there held k d at =
     let e : (k + 1) - 1 ≡ k = omega arith in
-    held (k + 1) (omega arith) (omega (arith, place list k d at)) d (row_of_number (k + 1) list (deposit_table db.trees) d (omega arith) there (ap (slice_get list) e ∙ at))
-  where
-    place : (list : List Sent) (k : ℕ) (d : Sent) → slice_get list k ≡ Some d → k < length list
-    place [] k d at = absurd cc
-    place (x ∷ list) zero d at = omega arith
-    place (x ∷ list) (suc k) d at = omega (arith, place list k d at)
+    held (k + 1) (omega arith) (omega (arith, slice_get_within list k d at)) d (row_of_number (k + 1) list (deposit_table db.trees) d (omega arith) there (ap (slice_get list) e ∙ at))
 
 -- ---- repeats
 

@@ -1,5 +1,6 @@
 -- Lists of rows, compared place by place.
-use Rattle.std.proofs.Common.{◌≡◌, false, IsTrue, ℕ, zero, suc, ◌+◌, ◌<◌, ◌⊎◌, inl, inr, pos, List, [], ◌∷◌, map, length, get_or, refl, sym, ap, subst, ◌∙◌, arith}
+use Rattle.std.proofs.Common.{◌≡◌, false, IsTrue, ℕ, zero, suc, ◌+◌, ◌<◌, pos, List, [], ◌∷◌, map, length, get_or, refl, sym, ap, ◌∙◌, arith}
+use Rattle.std.proofs.lemmas.List.{get_or_default}
 use Rattle.sqlite.specs.declared.types.Value.TheVariants.{Int}
 use Rattle.reg_store.specs.declared.keep.KeptRow.{KeptRow}
 use Rattle.reg_tables.specs.Rows.{placed_row, placed_rows}
@@ -8,32 +9,16 @@ use Rattle.reg_tables.specs.Adopts.{number_rows}
 -- lists of one length with the same elements are one
 pub same_list : {X : Type 0} (d : X) (xs ys : List X) → length xs ≡ length ys → ((k : ℕ) → k < length xs → get_or xs k d ≡ get_or ys k d) → xs ≡ ys
 same_list d [] [] e h = refl
-same_list d [] (y ∷ ys) e h = absurd (omega (arith, e))
-same_list d (x ∷ xs) [] e h = absurd (omega (arith, e))
 same_list d (x ∷ xs) (y ∷ ys) e h =
     let first : x ≡ y = h 0 (omega arith) in
     ap (λ z. z ∷ xs) first ∙ ap (λ all. y ∷ all) (same_list d xs ys (omega (arith, e)) (λ k low. h (suc k) (omega (arith, low))))
+same_list d xs ys e h = absurd (omega (arith, e))
 
 pub not_true : IsTrue false → ⊥
 not_true h = absurd cc
 
--- an element that is read at a place is the one that is there
-pub read_at : {X : Type 0} (xs : List X) (k : ℕ) (d x : X) → k < length xs → get_or xs k x ≡ x → get_or xs k d ≡ x
-read_at [] k d x low is = absurd (omega (arith, low))
-read_at (y ∷ xs) zero d x low is = is
-read_at (y ∷ xs) (suc k) d x low is = read_at xs k d x (omega (arith, low)) is
-
 pub same_at : {X : Type 0} (xs : List X) (k : ℕ) (d x y : X) → k < length xs → get_or xs k x ≡ x → get_or xs k d ≡ y → x ≡ y
-same_at xs k d x y low is here = sym (read_at xs k d x low is) ∙ here
-
-before_or_at : (k at : ℕ) → k < suc at → (k < at) ⊎ (k ≡ at)
-before_or_at k zero low = inr (omega (arith, low))
-before_or_at zero (suc at) low = inl (omega arith)
-before_or_at (suc k) (suc at) low = elim (before_or_at k at (omega (arith, low))) [ inl less ↦ inl (omega (arith, less)) | inr same ↦ inr (ap suc same) ]
-
--- what holds at each place before one, and at it, holds before the next
-pub one_further : (P : ℕ → Type 0) (at : ℕ) → ((k : ℕ) → k < at → P k) → P at → (k : ℕ) → k < at + 1 → P k
-one_further P at before here k low = elim (before_or_at k at (omega (arith, low))) [ inl less ↦ before k less | inr same ↦ subst P (sym same) here ]
+same_at xs k d x y low is here = sym is ∙ get_or_default xs k x d low ∙ here
 
 pub map_at : {X Y : Type 0} (f : X → Y) (xs : List X) (k : ℕ) (x : X) (d : Y) → k < length xs → get_or xs k x ≡ x → get_or (map f xs) k d ≡ f x
 map_at f [] k x d low is = absurd (omega (arith, low))

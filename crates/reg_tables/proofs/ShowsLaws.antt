@@ -1,21 +1,15 @@
 -- What the query for one deposit answers.
-use Rattle.std.proofs.Common.{◌≡◌, ℕ, zero, suc, ◌+◌, ◌<◌, ◌-◌, pos, List, [], ◌∷◌, filter, Some, Ok, Err, Result, IfOk}
+use Rattle.std.proofs.Common.{◌≡◌, ℕ, zero, suc, ◌+◌, ◌<◌, ◌-◌, List, [], ◌∷◌, filter, Some}
 use Rattle.std.proofs.Common.{slice_get, ap, subst, subst₂, arith}
 use Rattle.std.specs.List.Sorted.{IsPermutation}
-use Rattle.sqlite.specs.declared.types.Value.TheVariants.{Int}
 use Rattle.sqlite.specs.Order.{Row}
-use Rattle.sqlite.specs.State.{State, Shown}
 use Rattle.sqlite.proofs.Callers.{one_permutation}
 use Rattle.sqlite_keyed.proofs.ListLemmas.{IsPermutation-filter}
-use Rattle.reg_store.specs.declared.keep.KeepError.{KeepError}
 use Rattle.reg_store.specs.Sent.{Sent}
-use Rattle.reg_tables.specs.Tables.{HasTables}
-use Rattle.reg_tables.proofs.Texts.{select_deposit}
-use Rattle.reg_tables.specs.Rows.{deposit_table, given_deposit}
+use Rattle.reg_tables.specs.Rows.{given_deposit}
 use Rattle.reg_tables.specs.Register.{deposit_rows, has_number}
 use Rattle.reg_tables.specs.RegisterLaws.{none_before}
 use Rattle.reg_tables.specs.Pushes.{equal_at, apart_at}
-use Rattle.reg_tables.proofs.AdoptsLaws.{shows_deposit}
 
 -- among the rows of a list one has the number of a deposit
 pub row_at : (m k : ℕ) (list : List Sent) (d : Sent) → slice_get list k ≡ Some d
@@ -39,11 +33,3 @@ row_of_number n list table d low are at =
     (λ (m : ℕ). filter (has_number m) (deposit_rows 1 list) ≡ given_deposit m d ∷ []) e (row_at 1 (n - 1) list d at) in
     one_permutation _ _
     (subst (λ rows. IsPermutation rows (filter (has_number n) table)) one (IsPermutation-filter (has_number n) _ _ are))
-
--- ---- a deposit
-
-pub deposit_by : {X : Type 0} (items : X → List Row) (old new : State) (r : Result X KeepError) (n : ℕ)
-    → HasTables old.now.schema → IfOk r (λ x. Shown select_deposit (Int (pos n) ∷ []) old new (items x))
-    → IfOk r (λ x. IsPermutation (items x) (filter (has_number n) (deposit_table old.now.trees)))
-deposit_by items old new (Ok x) n has h = shows_deposit old new n (items x) has h
-deposit_by items old new (Err e) n has h = tt

@@ -6,7 +6,7 @@ use Rattle.std.specs.List.Sorted.{IsPermutation}
 use Rattle.std.proofs.lemmas.List.Elements.{recursion_from_All}
 use Rattle.std.proofs.lemmas.List.Sorted.{All-permutation, Contains-permutation}
 use Rattle.sqlite.specs.Order.{Row, bytes, column}
-use Rattle.reg_tables.specs.Rows.{dictionary_row, format_row}
+use Rattle.reg_tables.specs.Rows.{dictionary_row}
 use Rattle.reg_tables.specs.Register.{has_dictionary, meta_columns, dictionary_body}
 
 -- where the row has the dictionary, its body is these bytes

@@ -12,14 +12,16 @@ use Rattle.ags_check.specs.Findings.{CheckedFile}
 use Rattle.reg_store.specs.Sent.{Sent, is_repeat}
 use Rattle.reg_tables.specs.declared.schema.format.Format.{Format}
 use Rattle.reg_tables.specs.Tables.{format_number, schema_of}
-use Rattle.reg_store.specs.Fit.{IsFileOf, IsNamed, kept_rows}
+use Rattle.reg_store.specs.Fit.{IsFileOf, IsNamed}
 use Rattle.reg_store.specs.ApartLaws.{apart_all, apart_pair}
-use Rattle.reg_tables.specs.Rows.{deposit_table, given_deposit, line_table, step_table, rows_under, placed_rows}
-use Rattle.reg_tables.specs.Rows.{step_pair}
+use Rattle.reg_tables.specs.Rows.{columns_3, columns_5, deposit_table, given_deposit, line_table, step_table, rows_under}
 use Rattle.reg_tables.specs.Register.{has_number, file_lines, file_steps, HoldsSent}
 use Rattle.reg_tables.proofs.ShowsLaws.{row_of_number}
 use Rattle.reg_tables.specs.Adopts.{number_rows, id_of}
-use Rattle.reg_tables.proofs.AdoptsLaws.{IsRead, adopts}
+use Rattle.reg_tables.proofs.AdoptsLaws.{by_numbers, each_of, outside}
+use Rattle.reg_tables.proofs.ForeignLaws.{keyed_lines, keyed_steps, no_rows}
+use Rattle.sqlite_catalog.specs.Listing.{IsSound}
+use Rattle.sqlite_trees.proofs.ListLemmas.{all-slice_get}
 use Rattle.reg_tables.proofs.MethodsLaws.{same_deposit, slice_get_in, zip_at}
 use Rattle.reg_tables.specs.Whole.{IsWhole, Counts, AreWhole, HasMeta}
 
@@ -36,7 +38,7 @@ whole_at db dictionary list r k low =
     record {
       deposit = d;
       row = row_of_number (k + 1) list (deposit_table db.trees) d (omega arith) r.deposits at;
-      named = named_at list k d r.named found.1;
+      named = all-slice_get IsNamed list k d found.1 r.named;
       body = record {
         file = it.0;
         its = it.2;
@@ -50,12 +52,6 @@ whole_at db dictionary list r k low =
           subst (λ (y : Sent). is_repeat d.firm d.project d.bytes y ≡ false) one
           (apart_pair list (m - 1) k d there.0 r.apart (omega (arith, above, below)) there.1 found.1));
     }
-  where
-    named_at : (list : List Sent) (k : ℕ) (d : Sent) → AllByRecursion IsNamed list
-        → slice_get list k ≡ Some d → IsNamed d
-    named_at [] k d all at = absurd cc
-    named_at (x ∷ list) zero d all at = let same : x ≡ d = cc in subst IsNamed same all.0
-    named_at (x ∷ list) (suc k) d all at = named_at list k d all.1 at
 
 -- ---- whole deposits make a register
 
@@ -115,7 +111,7 @@ pub adopts_whole : (format : Format) (db : Database) (dictionary : Entries) (cou
     → IsDatabase db → HasMeta (format_number format) db dictionary → Counts db (Some count) → AreWhole db dictionary count
     → (list : List Sent) × HoldsSent format db dictionary list × (length list ≡ count)
 adopts_whole format db dictionary count schema sound meta counts all =
-    (list, adopts format db dictionary list read, long)
+    (list, holds, long)
   where
     P : ℕ → Type 0
     P k = IsWhole db dictionary (k + 1)
@@ -132,9 +128,6 @@ adopts_whole format db dictionary count schema sound meta counts all =
     table : List Row
     table = deposit_table db.trees
 
-    numbers : IsPermutation (number_rows 1 (length list)) (map id_of table)
-    numbers = subst (λ n. IsPermutation (number_rows 1 n) (map id_of table)) (sym long) counts.1
-
     rows : (k : ℕ) (d : Sent) → slice_get list k ≡ Some d
         → filter (has_number (1 + k)) table ≡ given_deposit (1 + k) d ∷ []
     rows k d at =
@@ -149,24 +142,32 @@ adopts_whole format db dictionary count schema sound meta counts all =
         subst (λ (y : Sent). is_repeat y.firm y.project y.bytes x ≡ false) it.1
         (it.0.alone (1 + j) (omega arith) (omega (arith, low)) x (rows j x first))
 
-    read : IsRead format db dictionary list
-    read = record {
+    none : (k : ℕ) → length files ≤ k → filter (has_number (k + 1)) table ≡ []
+    none k low = outside count (k + 1) table counts.1 (omega (arith, low, list_long P (λ k p. p.body.file) count all))
+
+    keyed : IsSound (schema_of format) db.trees
+    keyed = subst (λ s. IsSound s db.trees) schema sound
+
+    holds : HoldsSent format db dictionary list
+    holds = record {
       schema = schema;
       sound = sound;
       text = meta.text;
       short = meta.short;
       reads = meta.reads;
       meta = meta.meta;
-      numbers = numbers;
-      deposits = rows;
+      deposits = by_numbers 1 list table (subst (λ n. IsPermutation (number_rows 1 n) (map id_of table)) (sym long) counts.1) rows;
       files = files;
       each = list_zip (IsFileOf dictionary) P (λ k p. p.deposit) (λ k p. p.body.file) count all (λ k p. p.body.its);
       named = list_all_of IsNamed P (λ k p. p.deposit) count all (λ k p. p.named);
       apart = apart_all list earlier;
       few = subst (λ (n : ℕ). n ≤ 999999) (sym long) counts.0;
-      lines = λ k file at. (let it = list_at P (λ k p. p.body.file) count all k file at in
-          subst (λ (f : CheckedFile). IsPermutation (placed_rows 0 (kept_rows f.groups))
-          (rows_under (k + 1) (line_table db.trees))) it.1 it.0.body.lines);
-      steps = λ k file at. (let it = list_at P (λ k p. p.body.file) count all k file at in subst (λ (f : CheckedFile).
-          IsPermutation (map step_pair f.graph.steps) (rows_under (k + 1) (step_table db.trees))) it.1 it.0.body.steps);
+      lines = each_of file_lines refl files (line_table db.trees) (λ k file at.
+          (let it = list_at P (λ k p. p.body.file) count all k file at in
+          subst (λ (f : CheckedFile). IsPermutation (file_lines (Some f)) (rows_under (k + 1) (line_table db.trees))) it.1 it.0.body.lines))
+          (λ k low. no_rows columns_5 db.trees (k + 1) (λ _. refl) (none k low) (db.trees 4) (keyed_lines format db.trees keyed));
+      steps = each_of file_steps refl files (step_table db.trees) (λ k file at.
+          (let it = list_at P (λ k p. p.body.file) count all k file at in
+          subst (λ (f : CheckedFile). IsPermutation (file_steps (Some f)) (rows_under (k + 1) (step_table db.trees))) it.1 it.0.body.steps))
+          (λ k low. no_rows columns_3 db.trees (k + 1) (λ _. refl) (none k low) (db.trees 6) (keyed_steps format db.trees keyed));
     }

@@ -6,7 +6,8 @@ use Rattle.reg_tables.specs.Heads.{head_of}
 use Rattle.reg_tables.specs.Memory.{AreKnown, new_known, with_mark}
 use Rattle.reg_tables.specs.declared.memory.Known.{Known}
 use Rattle.reg_tables.proofs.Known.{marked_known}
-use Rattle.reg_tables.proofs.MemoryLemmas.{get_there, known_all, known_new, long_known, marked_more}
+use Rattle.std.proofs.lemmas.Option.{slice_get-get_or}
+use Rattle.reg_tables.proofs.MemoryLemmas.{known_all, known_new, long_known, marked_more}
 use Rattle.reg_tables.proofs.memory.Memory.of.Goals as goal
 
 pub loop-at-preserved : goal.loop-at-preserved
@@ -19,7 +20,7 @@ loop-at-preserved c =
     let head = c.index-heads-at.result in
     let mark = get_or marks at false in
     let here = slice_get_read heads (length heads) at head refl low c.index-heads-at.is in
-    let there : slice_get marks at ≡ Some mark = get_there marks at false under in
+    let there : slice_get marks at ≡ Some mark = slice_get-get_or marks at false under in
     let one = new_known (with_mark head mark) in
     let e : suc at ≡ at + 1 = omega arith in
     let more = subst (λ n. marked_known (take n heads) (take n marks) ≡ marked_known (take at heads) (take at marks) ++ one ∷ []) e (marked_more heads marks at head mark here there) in

@@ -6,7 +6,7 @@ use Rattle.reg_store.specs.Keep.{is_store}
 use Rattle.reg_tables.proofs.CreatesLaws.{new_empty}
 use Rattle.reg_tables.specs.Tables.{no_schema}
 use Rattle.reg_tables.proofs.CreateLemmas.{making_left}
-use Rattle.reg_tables.proofs.QueryLemmas.{survives_same}
+use Rattle.reg_tables.proofs.QuietLaws.{survives_same}
 use Rattle.reg_tables.proofs.open.create.fill.Goals as goal
 
 pub returns-then-not-is_vacant-clause-left : goal.returns-then-not-is_vacant-clause-left

@@ -7,7 +7,8 @@ use Rattle.reg_tables.specs.Heads.{IsDigestedAt, head_of}
 use Rattle.reg_tables.proofs.QuietLaws.{clean_before, idle_then, quiet_none, quiet_then}
 use Rattle.reg_tables.specs.Whole.{IsWhole}
 use Rattle.reg_tables.proofs.ExamineLemmas.{tests_all, tests_false, tests_true, whole_more, whole_not}
-use Rattle.reg_tables.proofs.HeadsLemmas.{heads_read, taken_all}
+use Rattle.std.proofs.lemmas.List.{take_all}
+use Rattle.reg_tables.proofs.HeadsLemmas.{heads_read}
 use Rattle.reg_tables.proofs.RepeatsLemmas.{below_more, held_more, none_below}
 use Rattle.reg_tables.proofs.open.deposits.examine_deposits.Goals as goal
 
@@ -83,7 +84,7 @@ returns-clause-long g c is = c.loop-at.invariant.long ∙ search rules
 pub returns-clause-heads : goal.returns-clause-heads
 returns-clause-heads g c clean is list there long =
     let end : c.loop-at.at ≡ c.args.count = search rules in
-    c.loop-at.invariant.heads clean list there (omega (arith, end, long)) ∙ ap (map head_of) (taken_all list c.loop-at.at (omega (arith, end, long)))
+    c.loop-at.invariant.heads clean list there (omega (arith, end, long)) ∙ ap (map head_of) (take_all c.loop-at.at list (omega (arith, end, long)))
 
 pub returns-clause-below : goal.returns-clause-below
 returns-clause-below g c is =

@@ -8,7 +8,7 @@ use Rattle.reg_tables.proofs.CompareLemmas.{lines_compared}
 use Rattle.reg_tables.proofs.open.deposits.examine_lines.Goals as goal
 
 pub take_shown-requires-clause-plain : goal.take_shown-requires-clause-plain
-take_shown-requires-clause-plain g c = lines_read.1
+take_shown-requires-clause-plain g c schema has = (lines_read schema has).plain
 
 pub returns-in-Ok-clause-tested : goal.returns-in-Ok-clause-tested
 returns-in-Ok-clause-tested g c clean =

@@ -5,7 +5,7 @@ use Rattle.reg_tables.proofs.ReadingLemmas.{data_read}
 use Rattle.reg_tables.proofs.read.graph.read_data_count.Goals as goal
 
 pub take_shown-requires-clause-plain : goal.take_shown-requires-clause-plain
-take_shown-requires-clause-plain g c = lines_read.1
+take_shown-requires-clause-plain g c schema has = (lines_read schema has).plain
 
 pub returns-in-Ok-clause-found : goal.returns-in-Ok-clause-found
 returns-in-Ok-clause-found g c clean =

@@ -5,7 +5,7 @@ use Rattle.reg_tables.proofs.ReadingLemmas.{steps_read, steps_held}
 use Rattle.reg_tables.proofs.read.graph.read_steps.Goals as goal
 
 pub take_shown-requires-clause-plain : goal.take_shown-requires-clause-plain
-take_shown-requires-clause-plain g c = steps_text.1
+take_shown-requires-clause-plain g c schema has = (steps_text schema has).plain
 
 pub returns-in-Ok-clause-found : goal.returns-in-Ok-clause-found
 returns-in-Ok-clause-found g c clean =

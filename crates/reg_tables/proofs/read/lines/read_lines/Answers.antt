@@ -5,7 +5,7 @@ use Rattle.reg_tables.proofs.ReadingLemmas.{lines_read, lines_held}
 use Rattle.reg_tables.proofs.read.lines.read_lines.Goals as goal
 
 pub take_shown-requires-clause-plain : goal.take_shown-requires-clause-plain
-take_shown-requires-clause-plain g c = lines_text.1
+take_shown-requires-clause-plain g c schema has = (lines_text schema has).plain
 
 pub returns-in-Ok-clause-found : goal.returns-in-Ok-clause-found
 returns-in-Ok-clause-found g c clean =

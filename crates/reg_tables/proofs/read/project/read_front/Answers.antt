@@ -5,7 +5,7 @@ use Rattle.reg_tables.proofs.ProjectLemmas.{front_lines}
 use Rattle.reg_tables.proofs.read.project.read_front.Goals as goal
 
 pub take_shown-requires-clause-plain : goal.take_shown-requires-clause-plain
-take_shown-requires-clause-plain g c = front_read.1
+take_shown-requires-clause-plain g c schema has = (front_read schema has).plain
 
 pub returns-in-Ok-clause-found : goal.returns-in-Ok-clause-found
 returns-in-Ok-clause-found g c clean =

@@ -5,7 +5,7 @@ use Rattle.reg_tables.proofs.ProjectLemmas.{targets_shown}
 use Rattle.reg_tables.proofs.read.targets.read_targets.Goals as goal
 
 pub take_shown-requires-clause-plain : goal.take_shown-requires-clause-plain
-take_shown-requires-clause-plain g c = targets_read.1
+take_shown-requires-clause-plain g c schema has = (targets_read schema has).plain
 
 pub returns-in-Ok-clause-found : goal.returns-in-Ok-clause-found
 returns-in-Ok-clause-found g c clean =
