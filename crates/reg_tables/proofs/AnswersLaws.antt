@@ -19,7 +19,7 @@ use Rattle.sqlite_keyed.proofs.SortLemmas.{sorted_unique}
 use Rattle.sqlite_trees.proofs.ListLemmas.{map-map}
 use Rattle.reg_tables.proofs.MeaningLaws.{query, AsksIn}
 
--- the query, asked of one table
+-- the query, on one table
 abbrev pub asked_of : ℕ → Query → Query
 asked_of tree q = query (inner tree end) q.filter q.project q.order
 
