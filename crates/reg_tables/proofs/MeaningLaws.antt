@@ -21,7 +21,7 @@ use Rattle.sqlite.specs.Command.TheVariants.{Insert, Update, Select, CreateTable
 use Rattle.sqlite_tied.specs.Compute.{everything}
 use Rattle.sqlite.specs.Listing.{understood, reads_listing}
 use Rattle.sqlite.proofs.Callers.{IsPlain, command_of, statement_of}
-use Rattle.reg_tables.specs.Tables.{HasTables, meta, deposits, lines, steps, withdrawals, no_schema, first_schema}
+use Rattle.reg_tables.specs.Tables.{HasTables, HasMarkTable, meta, deposits, lines, steps, withdrawals, no_schema, first_schema}
 use Rattle.reg_tables.specs.Tables.{register_schema}
 use Rattle.reg_tables.proofs.Texts.{create_meta, create_deposits, create_lines, create_steps, create_withdrawals}
 use Rattle.reg_tables.proofs.Texts.{fill_meta, raise_format, insert_deposit, insert_line, insert_step, insert_mark}
@@ -242,9 +242,9 @@ all_meta_read = asks (meta ∷ []) (λ more indexes views. record { asked = refl
 abbrev pub all_marks : Query
 all_marks = query (inner 8 end) [] (col 1 0 ∷ []) (rising (col 1 0) ∷ [])
 
-pub all_marks_read : (schema : Schema) → schema ≡ register_schema → AsksIn schema select_marks all_marks (codes "deposit" ∷ [])
+pub all_marks_read : (schema : Schema) → HasMarkTable schema → AsksIn schema select_marks all_marks (codes "deposit" ∷ [])
 unfolding understood everything
-all_marks_read schema is = subst (λ s. AsksIn s select_marks all_marks (codes "deposit" ∷ [])) (sym is) (record { asked = refl; plain = (refl, refl); alone = refl })
+all_marks_read = asks (meta ∷ deposits ∷ lines ∷ steps ∷ withdrawals ∷ []) (λ more indexes views. record { asked = refl; plain = (refl, refl); alone = refl })
 
 -- ---- the update
 

@@ -1,16 +1,15 @@
 -- The statements that make a register of format 1 one of format 2.
-use Rattle.std.proofs.Common.{◌≡◌, ◌≢◌, ◌==◌, ◌⊎◌, inl, inr, ℕ, zero, suc, ◌+◌, pos, Bool, true, false, List, [], ◌∷◌, map, length, All, None, Result, Ok, Err, IfOk, IfErr, OnOk, IsTrue, replicate, refl, sym, ap, subst, subst₂, ◌∙◌, arith}
+use Rattle.std.proofs.Common.{◌≡◌, ◌≢◌, ◌==◌, ◌⊎◌, inl, inr, ℕ, ◌+◌, Bool, true, false, List, [], ◌∷◌, map, length, None, Result, Ok, Err, IfOk, IfErr, OnOk, IsTrue, replicate, refl, sym, ap, subst, subst₂, ◌∙◌}
 use Rattle.std.proofs.Math.Logic.{∥∥₁_elim, ∥∥₁_map}
 use Rattle.std.proofs.Props.{props}
 use Rattle.std.proofs.lemmas.Bool.{eqb-false}
 use Rattle.std.proofs.lemmas.List.{length-map}
 use Rattle.std.specs.List.{AllByRecursion, flat_map, filter_map}
 use Rattle.std.specs.List.Sorted.{IsPermutation}
-use Rattle.std.proofs.lemmas.List.Sorted.{All-permutation, IsPermutation-refl, IsPermutation-sym, IsPermutation-trans}
+use Rattle.std.proofs.lemmas.List.Sorted.{IsPermutation-refl}
 use Rattle.sqlite.specs.Recovery.{Image}
 use Rattle.sqlite.specs.Start.{FindsIn}
-use Rattle.sqlite.specs.declared.types.Value.TheVariants.{Int}
-use Rattle.sqlite.specs.Order.{Row, column}
+use Rattle.sqlite.specs.Order.{Row}
 use Rattle.sqlite.specs.Command.TheVariants.{Update}
 use Rattle.sqlite.specs.Rowids.TheVariants.{Given}
 use Rattle.sqlite.specs.Edit.{edit_of}
@@ -54,9 +53,9 @@ use Rattle.reg_tables.specs.Formats.{StartsWithMeta}
 use Rattle.reg_tables.specs.Heads.{AreHeads, HoldsHeads, head_of}
 use Rattle.reg_tables.specs.Memory.{Agrees, Recalls}
 use Rattle.reg_tables.specs.Migrates.{AddsWithdrawals, FindsFirst, HoldsFirst, IsMigrated, MigratedOf, Migrates, RecallsFirst}
-use Rattle.reg_tables.specs.Register.{deposits_in, HoldsSent, IsRegister, IsRegisterOf, marks_of, meta_columns, sents_in, tables}
+use Rattle.reg_tables.specs.Register.{deposits_in, HoldsSent, IsRegister, IsRegisterOf, marks_of, meta_columns, sents_in, tables, text_in}
 use Rattle.reg_tables.specs.RegisterLaws.{sents_back}
-use Rattle.reg_tables.specs.Rows.{columns_3, dictionary_row, mark_column}
+use Rattle.reg_tables.specs.Rows.{columns_3, mark_column}
 use Rattle.reg_tables.specs.Tables.{meta, register_schema}
 use Rattle.reg_tables.specs.ReadBack.{read_back}
 use Rattle.reg_tables.proofs.ReadBackLaws.{holds_same, unmarked_register}
@@ -65,6 +64,7 @@ use Rattle.reg_tables.proofs.AddsLemmas.{kept_either}
 use Rattle.reg_tables.proofs.OpenLemmas.{found_tables}
 use Rattle.reg_tables.proofs.QueryLemmas.{fails_so, shown_same}
 use Rattle.reg_tables.proofs.RepeatsLemmas.{digested_held}
+use Rattle.reg_tables.proofs.StoredText.{text_of_meta}
 
 -- ---- what the update of meta leaves alone
 
@@ -120,31 +120,19 @@ changes_tables a b c one two =
 
 -- ---- the new register
 
--- the dictionary's row is the one with the number 0
-abbrev IsIts : List ℕ → Row → Type 0
-IsIts text row = column row 1 ≡ Int (pos 0) → row ≡ dictionary_row text
-
-each_its : (text : List ℕ) → All (IsIts text) (meta_columns 1 text)
-each_its text zero d low = λ _. refl
-each_its text (suc zero) d low = λ e. absurd (let no : ◌≡◌ {A = ℕ} 1 0 = cc in omega arith)
-each_its text (suc (suc i)) d low = absurd (omega arith)
-
--- so the rows of meta say the dictionary's bytes
-same_text : (a b : List ℕ) → IsPermutation (meta_columns 1 a) (meta_columns 1 b) → b ≡ a
-same_text a b are = let e : dictionary_row b ≡ dictionary_row a = All-permutation (IsIts a) (meta_columns 1 a) (meta_columns 1 b) are (each_its a) 0 (dictionary_row b) (omega arith) refl in cc
-
 raises : (old new : Database) (text : List ℕ) → IsPermutation (meta_columns 1 text) (map columns_3 (old.trees 0)) → IsPermutation (meta_columns 2 text) (map columns_3 (new.trees 0)) → AddsWithdrawals old new → Migrates old new
-raises old new text before after put dictionary list was = record {
-  holds = subst (HoldsSent Second new dictionary) (sym (sents_unmarked list)) holds;
-  marks = subst₂ IsPermutation (sym (none_withdrawn 1 list)) (sym (ap (map mark_column) put.marks)) (IsPermutation-refl []);
+raises old new text before after put = record {
+  register = λ dictionary list was. record {
+    holds = subst (HoldsSent Second new dictionary) (sym (sents_unmarked list)) (holds dictionary list was);
+    marks = subst₂ IsPermutation (sym (none_withdrawn 1 list)) (sym (ap (map mark_column) put.marks)) (IsPermutation-refl []);
+  };
+  bytes = text_of_meta 1 text _ before ∙ sym (text_of_meta 2 text _ after);
 }
   where
-    same : text ≡ was.text
-    same = same_text was.text text (IsPermutation-trans _ _ _ was.meta (IsPermutation-sym _ _ before))
-
-    holds : HoldsSent Second new dictionary list
-    holds = holds_same Second dictionary old new list was put.schema put.sound
-        (subst (λ (t : List ℕ). IsPermutation (meta_columns 2 t) (map columns_3 (new.trees 0))) same after) put.deposits put.lines put.steps
+    holds : (dictionary : Entries) (list : List Sent) → HoldsSent First old dictionary list → HoldsSent Second new dictionary list
+    holds dictionary list was = holds_same Second dictionary old new list was put.schema put.sound
+        (subst (λ (t : List ℕ). IsPermutation (meta_columns 2 t) (map columns_3 (new.trees 0))) (sym (text_of_meta 1 text _ before) ∙ text_of_meta 1 was.text _ was.meta) after)
+        put.deposits put.lines put.steps
 
 -- meta is read, the tables are changed, and meta is read again
 pub raised_inside : (a b c e : State) (text : List ℕ) (before after : List Row) → Inside (λ old new. new ≡ old) a b → Inside AddsWithdrawals b c → Inside (λ old new. new ≡ old) c e
@@ -200,25 +188,30 @@ recalled_first db dictionary count heads marks digests memory some are digested 
 pub recalled_then : (old new : Database) (dictionary : Entries) (memory : Memory) → RecallsFirst old dictionary memory → Migrates old new → Recalls new dictionary memory
 recalled_then old new dictionary memory found migrates = record {
   register = ∥∥₁_map found.sent (λ (p : HoldsFirst old dictionary (length memory.known.items)).
-      (let all : (list : List Deposit) × IsRegister new dictionary list × (length list ≡ length memory.known.items) = (map unmarked p.0, migrates dictionary p.0 p.1, length-map p.0 unmarked ∙ p.2) in all));
+      (let all : (list : List Deposit) × IsRegister new dictionary list × (length list ≡ length memory.known.items) = (map unmarked p.0, migrates.register dictionary p.0 p.1, length-map p.0 unmarked ∙ p.2) in all));
   agrees = subst (Agrees memory dictionary) same found.agrees;
 }
   where
     same : map unmarked (sents_in old.trees) ≡ deposits_in new.trees
     same = ∥∥₁_elim found.sent (Prim.hlevel props) (λ (p : HoldsFirst old dictionary (length memory.known.items)).
-        ap (map unmarked) (sent_is old dictionary (length memory.known.items) p) ∙ sym (read_back new (map unmarked p.0) (migrates dictionary p.0 p.1)))
+        ap (map unmarked) (sent_is old dictionary (length memory.known.items) p) ∙ sym (read_back new (map unmarked p.0) (migrates.register dictionary p.0 p.1)))
 
-pub migrated_list : (old : Database) (new : State) (dictionary : Entries) (memory : Memory) → RecallsFirst old dictionary memory → Migrates old new.now → new.committed ≡ new.now → ∥ IsRegisterOf First old dictionary (deposits_in new.committed.trees) ∥₁
-migrated_list old new dictionary memory found migrates settled = ∥∥₁_map found.sent (λ (p : HoldsFirst old dictionary (length memory.known.items)).
-    (let list = map unmarked p.0 in
-    let read : deposits_in new.committed.trees ≡ list = ap (λ (db : Database). deposits_in db.trees) settled ∙ read_back new.now list (migrates dictionary p.0 p.1) in
-    let is : IsRegisterOf First old dictionary (deposits_in new.committed.trees) = subst (IsRegisterOf First old dictionary) (sym read) (unmarked_register old dictionary p.0 p.1) in is))
+pub migrated_list : (old : Database) (new : State) (dictionary : Entries) (memory : Memory) → RecallsFirst old dictionary memory → Migrates old new.now → new.committed ≡ new.now
+    → ∥ IsRegisterOf First old dictionary (deposits_in new.committed.trees) ∥₁ × (text_in old.trees ≡ text_in new.committed.trees)
+migrated_list old new dictionary memory found migrates settled = (
+  ∥∥₁_map found.sent (λ (p : HoldsFirst old dictionary (length memory.known.items)).
+      (let list = map unmarked p.0 in
+      let read : deposits_in new.committed.trees ≡ list = ap (λ (db : Database). deposits_in db.trees) settled ∙ read_back new.now list (migrates.register dictionary p.0 p.1) in
+      let is : IsRegisterOf First old dictionary (deposits_in new.committed.trees) = subst (IsRegisterOf First old dictionary) (sym read) (unmarked_register old dictionary p.0 p.1) in is)),
+  migrates.bytes ∙ ap (λ (db : Database). text_in db.trees) (sym settled),
+)
 
 pub migrated_left : (old mid : State) (dictionary : Entries) (memory : Memory) (trees : Trees) → mid.now ≡ old.now → RecallsFirst old.now dictionary memory → ChangesOf Migrates mid trees → IsMigrated old trees
 migrated_left old mid dictionary memory trees same found put = ∥∥₁_map found.sent (λ (p : HoldsFirst old.now dictionary (length memory.known.items)).
     (let list = map unmarked p.0 in
-    let there = put.1 dictionary p.0 (subst (λ (db : Database). HoldsSent First db dictionary p.0) (sym same) p.1) in
-    let all : MigratedOf old trees = (dictionary, list, unmarked_register old.now dictionary p.0 p.1, subst (λ t. IsRegister (tables t) dictionary list) (sym put.3) (as_tables put.0 dictionary list there)) in all))
+    let there = put.1.register dictionary p.0 (subst (λ (db : Database). HoldsSent First db dictionary p.0) (sym same) p.1) in
+    let bytes = ap (λ (db : Database). text_in db.trees) (sym same) ∙ put.1.bytes ∙ ap text_in (sym put.3) in
+    let all : MigratedOf old trees = (dictionary, list, unmarked_register old.now dictionary p.0 p.1, subst (λ t. IsRegister (tables t) dictionary list) (sym put.3) (as_tables put.0 dictionary list there), bytes) in all))
 
 -- what a crash leaves after the register was examined, and its tables were changed
 pub migrates_then : (start mid new : State) (dictionary : Entries) (memory : Memory) → IsStill start mid false → (HasCleanDisk mid → RecallsFirst start.now dictionary memory) → Survives mid new (ChangesOf Migrates mid)
@@ -236,9 +229,10 @@ refused_then start mid new dictionary memory keep.Store never quiet found crash 
 refused_then start mid new dictionary memory keep.NoMemory never quiet found crash none =
     survives_then start mid new _ _ (λ trees. (adopt_error keep.NoMemory ≡ Store) × IsMigrated start trees) (λ _ db no. absurd no) (λ _ db no. absurd no) quiet.survives (none refl)
 
-pub found_first : {image : Image} {dictionary : Entries} {list : List Deposit} (s : State) → Opens s → FindsIn image s → ∥ IsRegisterOf First s.now dictionary list ∥₁ → ∥ FindsFirst image dictionary list ∥₁
-found_first {image} {dictionary} {list} s opened found register =
-    ∥∥₁_map register (λ (is : IsRegisterOf First s.now dictionary list). record { db = s.now; found = found_tables {image = image} s opened found; register = is })
+pub found_first : {image : Image} {dictionary : Entries} {text : List ℕ} {list : List Deposit} (s : State) → Opens s → FindsIn image s
+    → ∥ IsRegisterOf First s.now dictionary list ∥₁ × (text_in s.now.trees ≡ text) → ∥ FindsFirst image dictionary text list ∥₁
+found_first {image} {dictionary} {text} {list} s opened found register =
+    ∥∥₁_map register.0 (λ (is : IsRegisterOf First s.now dictionary list). record { db = s.now; found = found_tables {image = image} s opened found; register = is; bytes = register.1 })
 
 -- ---- a query inside a transaction commits nothing
 

@@ -1,5 +1,5 @@
 -- What an open finds in files is what it is adopted as.
-use Rattle.std.proofs.Common.{◌≡◌, List, Err, sym, ap, subst, ◌∙◌}
+use Rattle.std.proofs.Common.{◌≡◌, ℕ, List, Err, sym, ap, subst, ◌∙◌}
 use Rattle.std.proofs.Math.Logic.{∥∥₁_map}
 use Rattle.sqlite.specs.Recovery.{Image}
 use Rattle.sqlite.specs.Schema.{Schema}
@@ -11,7 +11,8 @@ use Rattle.ags_dict.specs.Entries.{Entries}
 use Rattle.reg_tables.specs.declared.error.AdoptError.{AdoptError}
 use Rattle.reg_store.specs.Deposit.{Deposit}
 use Rattle.reg_tables.specs.declared.schema.format.Format.{Format}
-use Rattle.reg_tables.specs.Register.{IsRegister}
+use Rattle.reg_tables.specs.Quiet.{IsAsBefore}
+use Rattle.reg_tables.specs.Register.{IsRegister, text_in}
 use Rattle.reg_tables.specs.Adoption.{Adopts}
 use Rattle.reg_tables.specs.Opened.{FindsTables, FindsSchema, HoldsRegister, RefusesFiles}
 
@@ -20,9 +21,15 @@ found_tables {image} s opened found =
     let same : s.committed.trees ≡ s.now.trees = ap (λ (d : Database). d.trees) (sym opened.clean) in
     record { found = subst (AreFoundIn image) same found.reads; only = λ held has. sym same ∙ found.holds held has }
 
-pub found_register : {image : Image} {dictionary : Entries} {list : List Deposit} (s : State) → Opens s → FindsIn image s → ∥ IsRegister s.now dictionary list ∥₁ → ∥ HoldsRegister image dictionary list ∥₁
-found_register {image} {dictionary} {list} s opened found register =
-    ∥∥₁_map register (λ (is : IsRegister s.now dictionary list). record { db = s.now; found = found_tables {image = image} s opened found; register = is })
+-- a connection that stayed as it was opened shows what an open finds
+pub found_still : {image : Image} (old new : State) → Opens old → FindsIn image old → IsAsBefore old new → FindsTables image new.now.trees × (new.committed ≡ new.now)
+found_still {image} old new opened found same =
+    (subst (λ (db : Database). FindsTables image db.trees) (sym same.1) (found_tables {image = image} old opened found), same.2 ∙ sym opened.clean ∙ sym same.1)
+
+pub found_register : {image : Image} {dictionary : Entries} {text : List ℕ} {list : List Deposit} (s : State) → Opens s → FindsIn image s
+    → ∥ IsRegister s.now dictionary list ∥₁ × (text_in s.now.trees ≡ text) → ∥ HoldsRegister image dictionary text list ∥₁
+found_register {image} {dictionary} {text} {list} s opened found register =
+    ∥∥₁_map register.0 (λ (is : IsRegister s.now dictionary list). record { db = s.now; found = found_tables {image = image} s opened found; register = is; bytes = register.1 })
 
 pub found_refused : {format : Format} {image : Image} {error : AdoptError} (s : State) → Opens s × IsLive s → FindsIn image s → Adopts format s.now (Err error) → RefusesFiles format image error
 found_refused {format} {image} {error} s opened found refused =

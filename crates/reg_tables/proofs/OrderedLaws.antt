@@ -12,7 +12,7 @@ use Rattle.sqlite.specs.State.{State, Shown}
 use Rattle.sqlite_value.proofs.OrderLemmas.{value_cmp-Text}
 use Rattle.reg_store.specs.Sent.{Sent}
 use Rattle.reg_tables.specs.Formats.{StartsWithMeta}
-use Rattle.reg_tables.specs.Tables.{HasTables, register_schema}
+use Rattle.reg_tables.specs.Tables.{HasTables, HasMarkTable}
 use Rattle.reg_tables.proofs.Texts.{select_all_numbers, select_marks, select_meta}
 use Rattle.reg_tables.proofs.MeaningLaws.{all_marks, all_marks_read, all_numbers, all_numbers_read, all_meta}
 use Rattle.reg_tables.proofs.MeaningLaws.{all_meta_read}
@@ -77,7 +77,7 @@ marks_show n [] = refl
 marks_show n (true ∷ marks) = ap (λ all. mark_row n ∷ all) (marks_show (n + 1) marks)
 marks_show n (false ∷ marks) = marks_show (n + 1) marks
 
-pub shows_marks : (old new : State) (rows : List Row) → old.now.schema ≡ register_schema
+pub shows_marks : (old new : State) (rows : List Row) → HasMarkTable old.now.schema
     → Shown select_marks [] old new rows → AreMarksInOrder old.now rows
 shows_marks old new rows has h =
     let a = answers select_marks 8 all_marks _ old new [] rows (all_marks_read old.now.schema has) refl h in (

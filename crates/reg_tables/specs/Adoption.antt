@@ -21,7 +21,7 @@ use Rattle.reg_tables.specs.declared.schema.format.Format.TheVariants.{Second}
 use Rattle.reg_tables.specs.Tables.{format_number, schema_of}
 use Rattle.reg_tables.specs.Formats.{HasFormat, IsFormatRow}
 use Rattle.reg_tables.specs.Register.{HoldsSent, IsRegister, IsRegisterOf, deposits_in, mark_rows, mark_table}
-use Rattle.reg_tables.specs.Register.{meta_columns}
+use Rattle.reg_tables.specs.Register.{meta_columns, text_in}
 use Rattle.reg_tables.specs.Whole.{HasMeta}
 
 -- What is answered where a query is refused.
@@ -121,7 +121,9 @@ Adopts format db (Err NotRegister) = HasNoOtherFormat (format_number format) db
 Adopts format db (Err Store) = Unit {0}
 Adopts format db (Err NoMemory) = Unit {0}
 
--- On a clean disk, the tables from before are a register of this dictionary and of the list that is committed now.
+-- On a clean disk, the tables from before are a register of this dictionary, and of the list and the dictionary's bytes
+-- that are committed now.
 abbrev pub AdoptsRegister : Entries → State → State → Type 0
-AdoptsRegister dictionary old new =
-    HasCleanDisk new → ∥ IsRegister old.now dictionary (deposits_in new.committed.trees) ∥₁
+AdoptsRegister dictionary old new = HasCleanDisk new
+    → ∥ IsRegister old.now dictionary (deposits_in new.committed.trees) ∥₁
+    × (text_in old.now.trees ≡ text_in new.committed.trees)

@@ -1,4 +1,4 @@
--- A register of format 1 that becomes one of format 2, with the same dictionary and the same deposits.
+-- A register of format 1 that becomes one of format 2, with the same dictionary, byte by byte, and the same deposits.
 use Rattle.std.specs.Prelude.{◌≡◌, ℕ, [], List, map, length}
 use Rattle.sqlite.specs.Recovery.{Image}
 use Rattle.sqlite.specs.Tree.{Trees}
@@ -14,7 +14,7 @@ use Rattle.reg_tables.specs.declared.memory.Memory.{Memory}
 use Rattle.reg_tables.specs.Tables.{register_schema}
 use Rattle.reg_tables.specs.Memory.{Agrees}
 use Rattle.reg_tables.specs.Opened.{FindsTables}
-use Rattle.reg_tables.specs.Register.{HoldsSent, IsRegister, IsRegisterOf, deposits_in, sents_in, tables}
+use Rattle.reg_tables.specs.Register.{HoldsSent, IsRegister, IsRegisterOf, deposits_in, sents_in, tables, text_in}
 
 -- There is a table of marks without a row, and the other tables are as they were but for meta.
 pub record AddsWithdrawals (old new : Database) : Type 0 where
@@ -25,21 +25,26 @@ pub record AddsWithdrawals (old new : Database) : Type 0 where
   pub steps : new.trees 6 ≡ old.trees 6
   pub marks : new.trees 8 ≡ []
 
--- Whatever was sent in a register of format 1, the new tables are a register of it, without a mark.
-abbrev pub Migrates : Database → Database → Type 0
-Migrates old new = (dictionary : Entries) (list : List Sent) → HoldsSent First old dictionary list
-    → IsRegister new dictionary (map unmarked list)
+-- Whatever was sent in a register of format 1, the new tables are a register of it, without a mark. The dictionary's
+-- bytes are those from before.
+pub record Migrates (old new : Database) : Type 0 where
+  pub register : (dictionary : Entries) (list : List Sent) → HoldsSent First old dictionary list
+      → IsRegister new dictionary (map unmarked list)
+  pub bytes : text_in old.trees ≡ text_in new.trees
 
--- On a clean disk, the tables from before are a register of format 1, of this dictionary and of the list that is now
--- committed.
+-- On a clean disk, the tables from before are a register of format 1, of this dictionary, and of the list and the
+-- dictionary's bytes that are now committed.
 abbrev pub MigratesRegister : Entries → State → State → Type 0
-MigratesRegister dictionary old new =
-    HasCleanDisk new → ∥ IsRegisterOf First old.now dictionary (deposits_in new.committed.trees) ∥₁
+MigratesRegister dictionary old new = HasCleanDisk new
+    → ∥ IsRegisterOf First old.now dictionary (deposits_in new.committed.trees) ∥₁
+    × (text_in old.now.trees ≡ text_in new.committed.trees)
 
--- The tables from before are a register of format 1, and these are one of format 2, of one dictionary and one list.
+-- The tables from before are a register of format 1, and these are one of format 2, of one dictionary, byte by byte,
+-- and one list.
 abbrev pub MigratedOf : State → Trees → Type 0
 MigratedOf old trees = (dictionary : Entries) × (list : List Deposit)
     × IsRegisterOf First old.now dictionary list × IsRegister (tables trees) dictionary list
+    × (text_in old.now.trees ≡ text_in trees)
 
 abbrev pub IsMigrated : State → Trees → Type 0
 IsMigrated old trees = ∥ MigratedOf old trees ∥₁
@@ -61,13 +66,15 @@ pub record RecallsFirst (db : Database) (dictionary : Entries) (memory : Memory)
   pub sent : ∥ HoldsFirst db dictionary (length memory.known.items) ∥₁
   pub agrees : Agrees memory dictionary (map unmarked (sents_in db.trees))
 
--- An open finds a register of format 1, of this list.
-pub record FindsFirst (image : Image) (dictionary : Entries) (list : List Deposit) : Type 0 where
+-- An open finds a register of format 1, of this list, whose dictionary is these bytes.
+pub record FindsFirst (image : Image) (dictionary : Entries) (text : List ℕ) (list : List Deposit) : Type 0 where
   pub db : Database
   pub found : FindsTables image db.trees
   pub register : IsRegisterOf First db dictionary list
+  pub bytes : text_in db.trees ≡ text
 
--- On a clean disk, an open finds a register of format 1, of this dictionary and of the list that the connection has
--- committed.
+-- On a clean disk, an open finds a register of format 1, of this dictionary, and of the bytes and the list that the
+-- connection has committed.
 abbrev pub MigratesFiles : Image → Entries → State → Type 0
-MigratesFiles image dictionary s = HasCleanDisk s → ∥ FindsFirst image dictionary (deposits_in s.committed.trees) ∥₁
+MigratesFiles image dictionary s = HasCleanDisk s
+    → ∥ FindsFirst image dictionary (text_in s.committed.trees) (deposits_in s.committed.trees) ∥₁

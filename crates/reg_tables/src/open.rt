@@ -9,7 +9,7 @@ ghost use Rattle.sqlite.specs.WalFiles.{image_at};
 ghost use Rattle.reg_tables.specs.Quiet.{StaysIfClean, StaysIfOpen};
 ghost use Rattle.reg_tables.specs.Adoption.{Adopts, AdoptsRegister, is_store_failure};
 ghost use Rattle.reg_tables.specs.declared.schema.format.Format.TheVariants.{Second};
-ghost use Rattle.reg_tables.specs.Opened.{AdoptsFiles, RefusesFiles};
+ghost use Rattle.reg_tables.specs.Opened.{AdoptsFiles, RefusesFiles, ShowsFiles};
 
 pub(crate) mod compare;
 pub(crate) mod create;
@@ -103,9 +103,11 @@ impl<F: Start> SqlKeep<FileStore<FileFrom<F>>> {
             IfSome e.1 (λ c. HasCleanDisk (file_state c) → RefusesFiles Second (image_at F.Start) e.0)) }
         ensures unopened { IfErr result (λ e. e.1 ≡ None → (e.0 ≡ AdoptError.Store) ⊎ (e.0 ≡ AdoptError.NoMemory)) }
 
-        // The connection that comes with another refusal than `Store`.
+        // The connection that comes with a refusal: open, but after `Store`, and one that is open shows what the files
+        // held.
         ensures open { IfErr result (λ e. is_store_failure e.0 ≡ false
             → IfSome e.1 (λ c. HasCleanDisk (file_state c) → IsTrue (file_state c).is_open)) }
+        ensures still { IfErr result (λ e. IfSome e.1 (λ c. ShowsFiles (image_at F.Start) (file_state c))) }
     {
         match connect(rt, path, start) {
             Ok(connection) => match SqlKeep::adopt(alloc, connection, progress) {

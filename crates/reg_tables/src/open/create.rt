@@ -14,7 +14,7 @@ ghost use Rattle.reg_tables.specs.Making.{AreDictionary, RefusesBytes, SurvivesR
 ghost use Rattle.reg_tables.specs.Commits.{CommitsAll};
 ghost use Rattle.reg_tables.specs.Quiet.{StaysIfClean, StaysIfOpen};
 ghost use Rattle.reg_tables.specs.Register.{deposits_in};
-ghost use Rattle.reg_tables.specs.Opened.{FindsEmpty, FindsNotEmpty};
+ghost use Rattle.reg_tables.specs.Opened.{FindsEmpty, FindsNotEmpty, ShowsFiles};
 
 use crate::error::CreateError;
 use crate::keep::SqlKeep;
@@ -182,9 +182,11 @@ impl<F: Start> SqlKeep<FileStore<FileFrom<F>>> {
             → IfSome e.1 (λ c. FindsEmpty (image_at F.Start) (file_state c))) }
         ensures unopened { IfErr result (λ e. e.1 ≡ None → e.0 ≢ CreateError.NotEmpty) }
 
-        // The connection that comes with another refusal than `Store`.
+        // The connection that comes with a refusal: open, but after `Store`, and one that is open shows what the files
+        // held.
         ensures open { IfErr result (λ e. e.0 ≢ CreateError.Store
             → IfSome e.1 (λ c. HasCleanDisk (file_state c) → IsTrue (file_state c).is_open)) }
+        ensures still { IfErr result (λ e. IfSome e.1 (λ c. ShowsFiles (image_at F.Start) (file_state c))) }
     {
         let dictionary = match dictionary_from(alloc, bytes) {
             Ok(dictionary) => dictionary,

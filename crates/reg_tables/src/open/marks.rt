@@ -10,7 +10,7 @@ ghost use Rattle.reg_tables.specs.Found.{AreMarksInOrder};
 ghost use Rattle.reg_tables.specs.Quiet.{FindsThat, IsIdle, IsStill};
 ghost use Rattle.reg_tables.specs.Register.{mark_rows};
 ghost use Rattle.reg_tables.specs.Rows.{mark_row};
-ghost use Rattle.reg_tables.specs.Tables.{register_schema};
+ghost use Rattle.reg_tables.specs.Tables.{HasMarkTable};
 
 use crate::error::AdoptError;
 use crate::open::values::is_row;
@@ -27,7 +27,7 @@ pub(crate) fn read_marks<S: Alter>(
     count: u32,
 ) -> Result<Vec<bool>, AdoptError>
     requires idle { IsIdle (state S.Store conn.old) }
-    requires schema { HasCleanDisk (state S.Store conn.old) → (state S.Store conn.old).now.schema ≡ register_schema }
+    requires schema { HasCleanDisk (state S.Store conn.old) → HasMarkTable (state S.Store conn.old).now.schema }
     ensures found { HasCleanDisk (state S.Store conn.new) → FindsMarks count (state S.Store conn.old).now result }
     ensures long { IfOk result (λ marks. length marks.items ≡ count) }
     ensures open { HasCleanDisk (state S.Store conn.new) → gives_up result ≡ false
@@ -48,7 +48,7 @@ pub(crate) fn read_marks<S: Alter>(
 /// The rows of the table, in the order of their numbers.
 fn read_mark_rows<S: Alter>(conn: &mut Connection<S>) -> Result<Vec<Row>, KeepError>
     requires idle { IsIdle (state S.Store conn.old) }
-    requires schema { HasCleanDisk (state S.Store conn.old) → (state S.Store conn.old).now.schema ≡ register_schema }
+    requires schema { HasCleanDisk (state S.Store conn.old) → HasMarkTable (state S.Store conn.old).now.schema }
     ensures found { FindsThat result (λ db rows. AreMarksInOrder db rows.items)
         (state S.Store conn.old) (state S.Store conn.new) }
     ensures open { HasCleanDisk (state S.Store conn.new) → fails result ≡ false

@@ -10,7 +10,7 @@ ghost use Rattle.reg_tables.specs.Commits.{CommitsAll};
 ghost use Rattle.reg_tables.specs.Memory.{Recalls};
 ghost use Rattle.reg_tables.specs.Migrates.{MigratesFiles, MigratesRegister, SurvivesMigration};
 ghost use Rattle.reg_tables.specs.Migrates.{SurvivesRefusedMigration};
-ghost use Rattle.reg_tables.specs.Opened.{RefusesFiles};
+ghost use Rattle.reg_tables.specs.Opened.{RefusesFiles, ShowsFiles};
 ghost use Rattle.reg_tables.specs.Quiet.{StaysIfClean, StaysIfOpen};
 ghost use Rattle.reg_tables.specs.declared.schema.format.Format.TheVariants.{First};
 
@@ -93,9 +93,11 @@ impl<F: Start> SqlKeep<FileStore<FileFrom<F>>> {
             IfSome e.1 (λ c. HasCleanDisk (file_state c) → RefusesFiles First (image_at F.Start) e.0)) }
         ensures unopened { IfErr result (λ e. e.1 ≡ None → (e.0 ≡ AdoptError.Store) ⊎ (e.0 ≡ AdoptError.NoMemory)) }
 
-        // The connection that comes with another refusal than `Store`.
+        // The connection that comes with a refusal: open, but after `Store`, and one that is open shows what the files
+        // held.
         ensures open { IfErr result (λ e. is_store_failure e.0 ≡ false
             → IfSome e.1 (λ c. HasCleanDisk (file_state c) → IsTrue (file_state c).is_open)) }
+        ensures still { IfErr result (λ e. IfSome e.1 (λ c. ShowsFiles (image_at F.Start) (file_state c))) }
     {
         match connect(rt, path, start) {
             Ok(connection) => match SqlKeep::migrate_in(alloc, connection, progress) {

@@ -1,4 +1,4 @@
-use Rattle.std.proofs.Common.{◌≡◌, Err, IsTrue, length, refl, sym, subst, ◌∙◌}
+use Rattle.std.proofs.Common.{◌≡◌, Err, IsTrue, length, refl, sym, ap, subst, ◌∙◌}
 use Rattle.sqlite.specs.Effect.{Database}
 use Rattle.sqlite.specs.State.{HasCleanDisk}
 use Rattle.sqlite.specs.Held.{state}
@@ -7,7 +7,7 @@ use Rattle.reg_tables.specs.Adoption.{Adopts}
 use Rattle.reg_tables.proofs.KeepLaws.{adopted_keeps, adopted_list}
 use Rattle.reg_tables.specs.Memory.{Agrees}
 use Rattle.reg_tables.proofs.QuietLaws.{clean_before}
-use Rattle.reg_tables.specs.Register.{IsRegister, deposits_in}
+use Rattle.reg_tables.specs.Register.{IsRegister, deposits_in, text_in}
 use Rattle.reg_tables.proofs.keep.SqlKeep.adopt.Goals as goal
 
 pub invariant_of-result : goal.invariant_of-result
@@ -32,8 +32,10 @@ returns-in-Ok-recall-clause-adopted g c clean =
     let made = c.in-Ok-recall.ensures in
     let same = made.quiet.same clean refl in
     let settled : mid.committed ≡ mid.now = c.in-Ok.ensures.idle.settled (clean_before mid new made.quiet.survives clean) (subst IsTrue (made.quiet.is_open clean refl) (made.open clean refl)) in
-    subst (λ h. ∥ IsRegister (state g.S.Store h).now c.in-Ok-recall.dictionary (deposits_in new.committed.trees) ∥₁) c.in-Ok.ensures.unchanged
-    (adopted_list mid new c.in-Ok-recall.dictionary (length c.in-Ok-recall.memory.known.items) same.0 (same.1 ∙ settled ∙ sym same.0) (made.found clean).register)
+    subst (λ h. ∥ IsRegister (state g.S.Store h).now c.in-Ok-recall.dictionary (deposits_in new.committed.trees) ∥₁ × (text_in (state g.S.Store h).now.trees ≡ text_in new.committed.trees)) c.in-Ok.ensures.unchanged (
+      adopted_list mid new c.in-Ok-recall.dictionary (length c.in-Ok-recall.memory.known.items) same.0 (same.1 ∙ settled ∙ sym same.0) (made.found clean).register,
+      ap (λ (db : Database). text_in db.trees) (sym (same.1 ∙ settled)),
+    )
 
 pub returns-in-Err-recall-clause-refused : goal.returns-in-Err-recall-clause-refused
 returns-in-Err-recall-clause-refused g c clean =

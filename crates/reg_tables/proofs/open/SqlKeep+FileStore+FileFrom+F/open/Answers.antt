@@ -1,7 +1,7 @@
 use Rattle.std.proofs.Common.{rules, arith, IsTrue, sym, subst}
 use Rattle.sqlite.specs.State.{HasCleanDisk}
 use Rattle.sqlite.specs.Files.{file_state}
-use Rattle.reg_tables.proofs.OpenLemmas.{found_register, found_refused}
+use Rattle.reg_tables.proofs.OpenLemmas.{found_register, found_refused, found_still}
 use Rattle.reg_tables.proofs.open.SqlKeep+FileStore+FileFrom+F.open.Goals as goal
 
 pub returns-in-Ok-adopt-clause-adopted : goal.returns-in-Ok-adopt-clause-adopted
@@ -21,6 +21,12 @@ returns-in-Err-adopt-clause-open g c well clean =
     let was = c.in-Ok.connection in
     let early : HasCleanDisk (file_state was) = omega (arith, c.in-Err-adopt.ensures.left.clean) in
     subst IsTrue (sym (c.in-Err-adopt.ensures.same well clean).0) (c.in-Ok.ensures.opened early).0.is_open
+
+pub returns-in-Err-adopt-clause-still : goal.returns-in-Err-adopt-clause-still
+returns-in-Err-adopt-clause-still g c clean is_open =
+    let was = c.in-Ok.connection in
+    let early : HasCleanDisk (file_state was) = omega (arith, c.in-Err-adopt.ensures.left.clean) in
+    found_still (file_state was) (file_state c.in-Err-adopt.connection) (c.in-Ok.ensures.opened early).0 (c.in-Ok.ensures.found early) (c.in-Err-adopt.ensures.still clean is_open)
 
 pub returns-in-Err : goal.returns-in-Err
 returns-in-Err g c = search rules

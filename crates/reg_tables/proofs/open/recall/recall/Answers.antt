@@ -1,4 +1,5 @@
-use Rattle.std.proofs.Common.{rules, ◌≡◌, Err, refl, subst, ◌∙◌}
+use Rattle.std.proofs.Common.{rules, ◌≡◌, [], Err, refl, ap, subst, ◌∙◌}
+use Rattle.sqlite.specs.Schema.{Schema}
 use Rattle.sqlite.specs.Effect.{Database}
 use Rattle.sqlite.specs.Held.{state}
 use Rattle.reg_tables.specs.declared.schema.format.Format.TheVariants.{Second}
@@ -10,6 +11,13 @@ use Rattle.reg_tables.proofs.open.recall.recall.Goals as goal
 
 pub returns-in-Err-clause-refused : goal.returns-in-Err-clause-refused
 returns-in-Err-clause-refused g c clean = refused_sent Second (state g.S.Store c.args.conn.now).now c.in-Err.error (c.in-Err.ensures.examines clean)
+
+pub read_marks-requires-clause-schema : goal.read_marks-requires-clause-schema
+read_marks-requires-clause-schema g c clean =
+    let old = state g.S.Store c.args.conn.now in
+    let is : (state g.S.Store c.examine.new.conn).now ≡ old.now = (c.in-Ok.ensures.quiet.same clean refl).0 in
+    let early = clean_before old (state g.S.Store c.examine.new.conn) c.in-Ok.ensures.quiet.survives clean in
+    ([], ap (λ (db : Database). db.schema.tables) is ∙ ap (λ (s : Schema). s.tables) (c.requires.schema early))
 
 pub returns-in-Err-read_marks-clause-refused : goal.returns-in-Err-read_marks-clause-refused
 returns-in-Err-read_marks-clause-refused g c clean =
