@@ -3,8 +3,7 @@ use Rattle.std.proofs.Common.{◌≡◌, ℕ, ◌+◌, Bool, true, false, cond, 
 use Rattle.std.specs.Prelude.{◌⊎◌, ◌↔◌, is_some}
 use Rattle.std.specs.Str.{bytes_eq}
 use Rattle.std.specs.Borrow.{Bor}
-use Rattle.std.specs.BTreeMap.{BTreeMap, UpdatesBy, is_at}
-use Rattle.std.specs.Map.{lookup}
+use Rattle.std.specs.BTreeMap.{BTreeMap, UpdatesBy}
 use Rattle.std.specs.Cmp.Lexicographic.{slice_cmp}
 use Rattle.std.proofs.lemmas.Bool.{eqb-true, eq-eqb}
 use Rattle.std.proofs.lemmas.List.{nil_from_length}
@@ -43,17 +42,6 @@ pub met_after : (name : List ℕ) (met new : BTreeMap (Bor (List ℕ)) (Unit {0}
     → (other : List ℕ) → IsMet new other ↔ ((name ≡ other) ⊎ IsMet met other)
 met_after name met new updates other =
     subst (λ o. (is_some o ≡ true) ↔ ((name ≡ other) ⊎ IsMet met other)) (sym (btree_map_updates_str name met new _ updates other)) (put_in name other tt _)
-
--- there is no key in a map without entries
-none_in : (entries : List (Bor (List ℕ) × Unit {0})) (q : List ℕ) → entries ≡ [] → is_some (lookup (is_at (λ (key : Bor (List ℕ)). slice_cmp nat_cmp q key.now)) entries) ≡ true → ⊥
-none_in [] q e h = absurd cc
-none_in (x ∷ entries) q e h = absurd cc
-
-pub none_met : (met : BTreeMap (Bor (List ℕ)) (Unit {0})) (q : List ℕ) → met.entries ≡ [] → IsMet met q → ⊥
-none_met met q e h = none_in met.entries q e h
-
-pub none_before : (names : List (List ℕ)) (name : List ℕ) → IsRepeat names 0 name → ⊥
-none_before names name h = omega (arith, h.1)
 
 -- what was met before one more name, and after it
 pub repeat_more : (names : List (List ℕ)) (i : ℕ) (name : List ℕ) (Old New : List ℕ → Type 0) → At names i name → ((q : List ℕ) → Old q ↔ IsRepeat names i q)
