@@ -14,9 +14,9 @@ use Rattle.ags_rows.specs.declared.code.Code.TheVariants.{Rule19, Rule19a, P1, P
 use Rattle.ags_rows.specs.declared.finding.Finding.{Finding}
 use Rattle.ags_rows.specs.declared.rows.Group.{Group}
 use Rattle.ags_text.specs.Names.{is_group_name, is_heading_name}
-use Rattle.ags_rows.specs.Collecting.{At, Adds, OneOf}
+use Rattle.ags_rows.specs.Collecting.{At, Adds, Notes, OneOf}
 use Rattle.ags_rows.specs.Stands.{IsRepeat, shape_rules, group_rules}
-use Rattle.ags_rows.specs.Parsing.{StandsInName, IsMet, met_rules, StandsInHeadings}
+use Rattle.ags_rows.specs.Parsing.{IsMet, met_rules, StandsInHeadings}
 use Rattle.ags_rows.proofs.Collecting.{adds_same, before_or_at}
 use Rattle.ags_rows.proofs.AtPlaces.{at_same}
 
@@ -58,6 +58,11 @@ repeat_more names i name Old New at before more q = (
 )
 
 -- ---- the same rules in other words
+
+-- of a name at a place of a list: that it may not be one, and that it is at an earlier place as well
+abbrev pub StandsInName : ℕ → Code → Code → (List ℕ → Bool) → List (List ℕ) → ℕ → List ℕ → Finding → Type 0
+StandsInName line wrong repeated is_name names place name =
+    OneOf (Notes line wrong name (is_name name ≡ false) ∷ Notes line repeated name (IsRepeat names place name) ∷ [])
 
 met_to : (line : ℕ) (wrong repeated : Code) (name : List ℕ) (is_name : Bool) (Met Repeat : Type 0) → (Met → Repeat) → (f : Finding) → OneOf (met_rules line wrong repeated name is_name Met) f → OneOf (met_rules line wrong repeated name is_name Repeat) f
 met_to line wrong repeated name is_name Met Repeat to f (inl k) = inl k
