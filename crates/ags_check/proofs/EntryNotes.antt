@@ -10,10 +10,14 @@ use Rattle.ags_rows.specs.declared.rows.Group.{Group}
 use Rattle.ags_rows.proofs.Lemmas.{at_from_read, at_map, among_more, among_all, one_more, two_rules}
 use Rattle.ags_dict.specs.Entries.{required_of}
 use Rattle.ags_check.specs.declared.rows.columns.Column.{Column}
-use Rattle.ags_check.specs.Columns.{IsColumn, AreColumns, Outlined, column_text}
+use Rattle.ags_check.specs.Columns.{IsColumn, AreColumns, Outlined}
 use Rattle.ags_cells.specs.Fits.{FitsTypeCode}
 use Rattle.ags_check.specs.Placing.{InSome}
 use Rattle.ags_check.specs.RowRules.{unit_over, type_over, IsUnlistedUnit, IsUnlistedType, IsUnlistedAbbreviation, unit_and_type_rules, data_entry_rules}
+
+-- what is in a row at the column's place
+abbrev pub column_text : Column → List (List ℕ) → List ℕ
+column_text column fields = field_at fields column.place
 
 -- the notes on an entry
 pub entry_noted : (file : List Contents) (line : ℕ) (h unit code text : List ℕ) (f0 f1 f2 f3 f4 : List Finding)

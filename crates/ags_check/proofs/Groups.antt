@@ -37,9 +37,9 @@ named groups name = (
 
 -- ---- the parent group
 
-pub lacks_parent : (entries : Entries) (file : List Contents) (group : Contents) (parent : List ℕ) (b : Bool) → parent_of entries group.name ≡ Some parent
+pub lacks_parent_group : (entries : Entries) (file : List Contents) (group : Contents) (parent : List ℕ) (b : Bool) → parent_of entries group.name ≡ Some parent
     → IsTrue b ↔ HasGroup file parent → IsTrue (not b) ↔ LacksParentGroup entries file group
-lacks_parent entries file group parent b is means = (
+lacks_parent_group entries file group parent b is means = (
   λ e. (parent, is, λ h. true≢false (sym (means.1 h) ∙ not-true b e)),
   λ rule.
       let same : rule.0 ≡ parent = same_Some rule.0 parent (sym rule.1 ∙ is) in

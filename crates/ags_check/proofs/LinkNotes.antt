@@ -12,10 +12,10 @@ use Rattle.ags_dict.specs.Entries.{Entries}
 use Rattle.ags_links.specs.DataRows.{row_in, entry_of, data_rows}
 use Rattle.ags_links.specs.RecordLinks.{separators_of, IsBroken}
 use Rattle.ags_check.specs.declared.rows.columns.Column.{Column}
-use Rattle.ags_check.specs.Columns.{IsColumn, AreColumns, column_text}
+use Rattle.ags_check.specs.Columns.{IsColumn, AreColumns}
 use Rattle.ags_check.specs.RowRules.{IsBrokenLink}
 use Rattle.ags_check.specs.Placing.{InSome}
-use Rattle.ags_check.proofs.EntryNotes.{heading_at, heading_of}
+use Rattle.ags_check.proofs.EntryNotes.{column_text, heading_at, heading_of}
 
 -- what is in the row at a column's place is what is under its heading
 pub text_same : (group : Contents) (column : Column) (fields : List (List ℕ)) (text : List ℕ) → IsColumn group column → text ≡ column_text column fields → text ≡ under group.headings fields column.heading.now

@@ -1,11 +1,18 @@
 -- The latest place so far.
-use Rattle.std.proofs.Common.{◌≡◌, ℕ, ◌+◌, ◌≤◌, true, Option, Some, None, List, max, refl, sym, ap, subst, ◌∙◌, arith, inl, inr}
+use Rattle.std.proofs.Common.{◌≡◌, ℕ, ◌+◌, ◌<◌, ◌≤◌, true, Option, Some, None, List, max, refl, sym, ap, subst, ◌∙◌, arith, inl, inr}
 use Rattle.std.proofs.lemmas.Bool.{true≢false, cases_lt, lt-ltb, ltb-true}
 use Rattle.std.proofs.lemmas.Option.{none-some, same_Some}
 use Rattle.ags_rows.specs.Collecting.{At}
 use Rattle.ags_rows.proofs.Lemmas.{before_or_at, at_same}
 use Rattle.ags_rows.specs.Contents.{place_in}
-use Rattle.ags_check.specs.HeaderSteps.{later, is_before_latest, IsLatest, IsOvertaken}
+use Rattle.ags_check.specs.HeaderSteps.{later, is_before_latest, IsOvertaken}
+
+-- the latest place of the names before the end, none where none has a place
+abbrev pub IsLatest : (List ℕ → Option ℕ) → List (List ℕ) → ℕ → Option ℕ → Type 0
+IsLatest rank names end None = (place : ℕ) (name : List ℕ) → place < end → At names place name → rank name ≡ None
+IsLatest rank names end (Some latest) =
+    ((place : ℕ) (name : List ℕ) (this : ℕ) → place < end → At names place name → rank name ≡ Some this → this ≤ latest)
+    × ((place : ℕ) × (name : List ℕ) × (place < end) × At names place name × (rank name ≡ Some latest))
 
 pub latest_none : (rank : List ℕ → Option ℕ) (names : List (List ℕ)) → IsLatest rank names 0 None
 latest_none rank names = λ place name lt at. absurd (omega (arith, lt))

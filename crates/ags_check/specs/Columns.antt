@@ -3,7 +3,7 @@ use Rattle.std.specs.Prelude.{◌≡◌, ◌≢◌, ◌↔◌, ◌+◌, ℕ, Lis
 use Rattle.ags_rows.specs.declared.rows.Group.{Group}
 use Rattle.ags_rows.specs.declared.rows.Row.{Row}
 use Rattle.ags_rows.specs.Collecting.{At}
-use Rattle.ags_rows.specs.Contents.{Contents, group_contents, place_in, field_at}
+use Rattle.ags_rows.specs.Contents.{Contents, group_contents, place_in}
 use Rattle.ags_text.specs.Names.{is_definition}
 use Rattle.ags_cells.specs.CellTypes.{IsTypeCodeOf}
 use Rattle.ags_dict.specs.Entries.{Entries, keys_of, required_of, parent_of}
@@ -26,10 +26,6 @@ pub record IsColumn (group : Contents) (column : Column) : Type 0 where
 pub record AreColumns (group : Contents) (headings : List (List ℕ)) (columns : List Column) : Type 0 where
   pub each : All (IsColumn group) columns
   pub heads : map (λ column. column.heading.now) columns ≡ headings
-
--- what is in a row at the column's place
-abbrev pub column_text : Column → List (List ℕ) → List ℕ
-column_text column fields = field_at fields column.place
 
 -- A group and the entries that apply to it.
 pub record Outlined : Type 0 where

@@ -1,5 +1,5 @@
 -- What the functions of the fourth phase compute on the way.
-use Rattle.std.specs.Prelude.{◌≡◌, ℕ, ◌<◌, ◌≤◌, List, Bool, true, false, map, nat_lt, max, Option, Some, None, IsSome}
+use Rattle.std.specs.Prelude.{◌≡◌, ℕ, ◌<◌, List, Bool, true, false, map, nat_lt, max, Option, Some, None, IsSome}
 use Rattle.std.specs.Borrow.{Bor}
 use Rattle.ags_rows.specs.declared.code.Code.{Code}
 use Rattle.ags_rows.specs.declared.finding.Finding.{Finding}
@@ -57,13 +57,6 @@ abbrev pub is_before_latest : Option ℕ → Option ℕ → Bool
 is_before_latest None latest = false
 is_before_latest (Some place) None = false
 is_before_latest (Some place) (Some latest) = nat_lt place latest
-
--- the latest place of the names before the end, none where none has a place
-abbrev pub IsLatest : (List ℕ → Option ℕ) → List (List ℕ) → ℕ → Option ℕ → Type 0
-IsLatest rank names end None = (place : ℕ) (name : List ℕ) → place < end → At names place name → rank name ≡ None
-IsLatest rank names end (Some latest) =
-    ((place : ℕ) (name : List ℕ) (this : ℕ) → place < end → At names place name → rank name ≡ Some this → this ≤ latest)
-    × ((place : ℕ) × (name : List ℕ) × (place < end) × At names place name × (rank name ≡ Some latest))
 
 -- an earlier name of the list comes later in the order than this one, the name at the place
 abbrev pub IsOvertaken : List (List ℕ) → List (List ℕ) → ℕ → List ℕ → Type 0

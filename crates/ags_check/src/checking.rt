@@ -20,6 +20,25 @@ use std::alloc::{AllocError, Global};
 use std::fmt::{self, Debug, Formatter, Write};
 use thiserror::Error;
 
+/// The file, if it breaks no rule under the dictionary, or all findings of the first phase that has any.
+pub fn check<'a>(
+    alloc: Global,
+    dictionary: &Dictionary,
+    bytes: &'a [u8],
+) -> Result<Checked<'a>, CheckError>
+    requires { length bytes.now ≤ READABLE }
+    ensures bytes { IfOk result (λ checked. checked.bytes ≡ bytes.now) }
+    ensures given { IfOk result (λ checked. checked.given ≡ dictionary.now) }
+    ensures clean { IfOk result IsClean }
+    ensures findings { HasFindings result (Findings dictionary.now bytes.now) }
+{
+    // the groups are lent, so that few places hold what is proved of them
+    let scan = read(alloc, bytes)?;
+    let extended = dictionary.extend(&scan)?;
+    let graph = check_group_phases(alloc, dictionary, &extended, &scan)?;
+    Ok(Checked::of(dictionary, bytes, scan, extended, graph))
+}
+
 /// Why a file is not taken.
 #[derive(Drop, Error)]
 pub enum CheckError {
@@ -61,16 +80,23 @@ fn read<'a>(alloc: Global, bytes: &'a [u8]) -> Result<Scan<'a>, CheckError>
     }
 }
 
-/// Whether a phase has no finding, or all its findings.
-fn phase(found: Result<FindingList, AllocError>) -> Result<(), CheckError>
-    ensures clear { OnOk result (found ≡ Ok []) }
-    ensures findings { HasFindings result (λ all. found ≡ Ok all) }
+/// The steps between the rows, if the groups break nothing of the last two phases, or all findings of the first of them
+/// that has any.
+fn check_group_phases(
+    alloc: Global,
+    given: &Dictionary,
+    extended: &Dictionary,
+    scan: &Scan,
+) -> Result<Graph, CheckError>
+    ensures graph { IfOk result (IsGraphOf (record { contents = contents_of scan.now; entries = extended.now })) }
+    ensures headers { OnOk result (IsClear (StandsInDictionary given.now extended.now scan.now)) }
+    ensures rows { OnOk result (IsClear (StandsInEntries extended.now scan.now)) }
+    ensures findings { HasFindings result (FirstFound (dictionary_phases given.now extended.now scan.now)) }
 {
-    match found {
-        Ok(found) if found.is_empty() => Ok(()),
-        Ok(found) => Err(CheckError::Findings(found)),
-        Err(_) => Err(CheckError::NoMemory),
+    if let Err(e) = check_headers(alloc, given, extended, scan) {
+        return Err(e);
     }
+    check_rows(alloc, extended, scan)
 }
 
 /// Whether the groups break nothing of the fourth phase, or all its findings.
@@ -84,6 +110,17 @@ fn check_headers(
     ensures findings { HasFindings result (AreExactly (StandsInDictionary given.now extended.now scan.now)) }
 {
     phase(header_findings(alloc, given, extended, scan.groups()))
+}
+
+/// The steps between the rows, if these break nothing of the fifth phase, or all its findings. The index is lent, so
+/// that one place drops it: each would be proved anew, at length.
+fn check_rows(alloc: Global, dictionary: &Dictionary, scan: &Scan) -> Result<Graph, CheckError>
+    ensures graph { IfOk result (IsGraphOf (record { contents = contents_of scan.now; entries = dictionary.now })) }
+    ensures clear { OnOk result (IsClear (StandsInEntries dictionary.now scan.now)) }
+    ensures findings { HasFindings result (AreExactly (StandsInEntries dictionary.now scan.now)) }
+{
+    let index = Index::build(alloc, scan, dictionary)?;
+    check_indexed(alloc, dictionary, scan, &index)
 }
 
 /// The steps between the rows of an index, if these break nothing of the fifth phase, or all its findings.
@@ -108,51 +145,14 @@ fn check_indexed(
     }
 }
 
-/// The steps between the rows, if these break nothing of the fifth phase, or all its findings. The index is lent, so
-/// that one place drops it: each would be proved anew, at length.
-fn check_rows(alloc: Global, dictionary: &Dictionary, scan: &Scan) -> Result<Graph, CheckError>
-    ensures graph { IfOk result (IsGraphOf (record { contents = contents_of scan.now; entries = dictionary.now })) }
-    ensures clear { OnOk result (IsClear (StandsInEntries dictionary.now scan.now)) }
-    ensures findings { HasFindings result (AreExactly (StandsInEntries dictionary.now scan.now)) }
+/// Whether a phase has no finding, or all its findings.
+fn phase(found: Result<FindingList, AllocError>) -> Result<(), CheckError>
+    ensures clear { OnOk result (found ≡ Ok []) }
+    ensures findings { HasFindings result (λ all. found ≡ Ok all) }
 {
-    let index = Index::build(alloc, scan, dictionary)?;
-    check_indexed(alloc, dictionary, scan, &index)
-}
-
-/// The steps between the rows, if the groups break nothing of the last two phases, or all findings of the first of them
-/// that has any.
-fn check_group_phases(
-    alloc: Global,
-    given: &Dictionary,
-    extended: &Dictionary,
-    scan: &Scan,
-) -> Result<Graph, CheckError>
-    ensures graph { IfOk result (IsGraphOf (record { contents = contents_of scan.now; entries = extended.now })) }
-    ensures headers { OnOk result (IsClear (StandsInDictionary given.now extended.now scan.now)) }
-    ensures rows { OnOk result (IsClear (StandsInEntries extended.now scan.now)) }
-    ensures findings { HasFindings result (FirstFound (dictionary_phases given.now extended.now scan.now)) }
-{
-    if let Err(e) = check_headers(alloc, given, extended, scan) {
-        return Err(e);
+    match found {
+        Ok(found) if found.is_empty() => Ok(()),
+        Ok(found) => Err(CheckError::Findings(found)),
+        Err(_) => Err(CheckError::NoMemory),
     }
-    check_rows(alloc, extended, scan)
-}
-
-/// The file, if it breaks no rule under the dictionary, or all findings of the first phase that has any.
-pub fn check<'a>(
-    alloc: Global,
-    dictionary: &Dictionary,
-    bytes: &'a [u8],
-) -> Result<Checked<'a>, CheckError>
-    requires { length bytes.now ≤ READABLE }
-    ensures bytes { IfOk result (λ checked. checked.bytes ≡ bytes.now) }
-    ensures given { IfOk result (λ checked. checked.given ≡ dictionary.now) }
-    ensures clean { IfOk result IsClean }
-    ensures findings { HasFindings result (Findings dictionary.now bytes.now) }
-{
-    // the groups are lent, so that few places hold what is proved of them
-    let scan = read(alloc, bytes)?;
-    let extended = dictionary.extend(&scan)?;
-    let graph = check_group_phases(alloc, dictionary, &extended, &scan)?;
-    Ok(Checked::of(dictionary, bytes, scan, extended, graph))
 }

@@ -26,17 +26,6 @@ impl<'f, 'a> Model for NamedGroups<'f, 'a> {
     ghost invariant = { λ f. f.names ≡ map (λ group. group.name) f.groups.now };
 }
 
-/// The names of groups.
-fn all_names<'g>(alloc: Global, groups: &'g [Group]) -> Result<Vec<&'g [u8]>, AllocError>
-    ensures { IfOk result (λ names. map (λ name. name.now) names.items ≡ map (λ group. group.name) groups.now) }
-{
-    let mut names = Vec::new(alloc);
-    for group in groups {
-        names.push(group.name.as_slice())?;
-    }
-    Ok(names)
-}
-
 impl<'f, 'a> NamedGroups<'f, 'a> {
     /// The file of these groups.
     pub(crate) fn of(alloc: Global, groups: &'f [Group<'a>]) -> Result<Self, AllocError>
@@ -60,4 +49,15 @@ impl<'f, 'a> NamedGroups<'f, 'a> {
     {
         self.names.find(name).is_some()
     }
+}
+
+/// The names of groups.
+fn all_names<'g>(alloc: Global, groups: &'g [Group]) -> Result<Vec<&'g [u8]>, AllocError>
+    ensures { IfOk result (λ names. map (λ name. name.now) names.items ≡ map (λ group. group.name) groups.now) }
+{
+    let mut names = Vec::new(alloc);
+    for group in groups {
+        names.push(group.name.as_slice())?;
+    }
+    Ok(names)
 }

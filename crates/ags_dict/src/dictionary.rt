@@ -38,18 +38,6 @@ impl Model for Dictionary {
     ghost view = { λ d. record { groups = d.groups; headings = d.headings } };
 }
 
-/// The groups that have no parent, whatever their entries say.
-const WITHOUT_PARENT: &[&[u8]] = &[
-    b"PROJ", b"TRAN", b"ABBR", b"DICT", b"UNIT", b"TYPE", b"FILE",
-];
-
-/// Whether the group has no parent, whatever its entry says.
-fn has_no_parent(group: &[u8]) -> bool
-    ensures { result ≡ has_no_parent group.now }
-{
-    WITHOUT_PARENT.contains(&group)
-}
-
 impl Dictionary {
     /// No entries.
     pub(crate) fn empty(alloc: Global) -> Dictionary
@@ -173,4 +161,16 @@ impl Dictionary {
             parent => Some(parent),
         }
     }
+}
+
+/// The groups that have no parent, whatever their entries say.
+const WITHOUT_PARENT: &[&[u8]] = &[
+    b"PROJ", b"TRAN", b"ABBR", b"DICT", b"UNIT", b"TYPE", b"FILE",
+];
+
+/// Whether the group has no parent, whatever its entry says.
+fn has_no_parent(group: &[u8]) -> bool
+    ensures { result ≡ has_no_parent group.now }
+{
+    WITHOUT_PARENT.contains(&group)
 }

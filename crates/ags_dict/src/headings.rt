@@ -33,26 +33,6 @@ impl Model for HeadingEntries {
     ghost invariant = { λ h. FindsHeadings h.entries.items h.by_group h.by_heading h.ranks };
 }
 
-/// Notes the place of an entry for a heading of a group.
-fn note_place(
-    alloc: Global,
-    group: &[u8],
-    heading: &[u8],
-    place: usize,
-    by_group: &mut PlacesByText,
-    by_heading: &mut PlacesByText,
-    ranks: &mut Ranks,
-) -> Result<(), AllocError>
-    ensures groups { OnOk result (NotesPlace group.now place by_group.old by_group.new) }
-    ensures headings { OnOk result (NotesPlace heading.now place by_heading.old by_heading.new) }
-    ensures orders { OnOk result (NotesRank group.now heading.now (length (places_at by_group.old group.now))
-        ranks.old ranks.new) }
-{
-    ranks.note(alloc, group, heading, by_group.of(group).len())?;
-    by_group.note(alloc, group, place)?;
-    by_heading.note(alloc, heading, place)
-}
-
 impl HeadingEntries {
     /// No entries.
     pub(crate) fn new(alloc: Global) -> HeadingEntries
@@ -194,4 +174,24 @@ impl HeadingEntries {
         }
         Ok(copied)
     }
+}
+
+/// Notes the place of an entry for a heading of a group.
+fn note_place(
+    alloc: Global,
+    group: &[u8],
+    heading: &[u8],
+    place: usize,
+    by_group: &mut PlacesByText,
+    by_heading: &mut PlacesByText,
+    ranks: &mut Ranks,
+) -> Result<(), AllocError>
+    ensures groups { OnOk result (NotesPlace group.now place by_group.old by_group.new) }
+    ensures headings { OnOk result (NotesPlace heading.now place by_heading.old by_heading.new) }
+    ensures orders { OnOk result (NotesRank group.now heading.now (length (places_at by_group.old group.now))
+        ranks.old ranks.new) }
+{
+    ranks.note(alloc, group, heading, by_group.of(group).len())?;
+    by_group.note(alloc, group, place)?;
+    by_heading.note(alloc, heading, place)
 }

@@ -16,6 +16,20 @@ use std::alloc::{AllocError, Global};
 use std::fmt;
 use thiserror::Error;
 
+impl Dictionary {
+    /// The dictionary that a file is.
+    pub fn read(alloc: Global, bytes: &[u8]) -> Result<Dictionary, DictError>
+        requires { length bytes.now ≤ READABLE }
+        ensures reads { ReadsDictionary bytes.now result }
+    {
+        match Scan::read_loose(alloc, bytes) {
+            Ok(scan) => of_groups(alloc, scan.groups()),
+            Err(RowsError::Findings(found)) => Err(DictError::NotDictionary(found)),
+            Err(RowsError::NoMemory) => Err(DictError::NoMemory),
+        }
+    }
+}
+
 /// Why bytes are no dictionary.
 #[derive(Drop, Error)]
 pub enum DictError {
@@ -47,60 +61,6 @@ impl From<AllocError> for DictError {
     }
 }
 
-/// Whether one of the groups is DICT.
-pub fn has_dict(groups: &[Group]) -> bool
-    ensures { result ≡ has_dict (contents_of groups.now) }
-{
-    for group in groups {
-        if is_dict(group) {
-            return true;
-        }
-    }
-    false
-}
-
-/// Whether a HEADING row has a heading.
-fn has(headings: &[Cell], wanted: &[u8]) -> bool
-    ensures { result ≡ list_any (λ h. bytes_eq h wanted.now) headings.now }
-{
-    for heading in headings {
-        if heading.as_slice() == wanted {
-            return true;
-        }
-    }
-    false
-}
-
-/// Whether a HEADING row has the headings that make entries.
-fn has_dict_headings(headings: &[Cell]) -> bool
-    ensures { result ≡ has_dict_headings headings.now }
-{
-    has(headings, b"DICT_TYPE")
-        && has(headings, b"DICT_GRP")
-        && has(headings, b"DICT_HDNG")
-        && has(headings, b"DICT_STAT")
-        && has(headings, b"DICT_PGRP")
-}
-
-/// Whether the group is DICT and lacks a heading that makes entries.
-fn is_incomplete(group: &Group) -> bool
-    ensures { result ≡ is_incomplete (group_contents group.now) }
-{
-    is_dict(group) && !has_dict_headings(group.headings.as_slice())
-}
-
-/// Whether DICT lacks a heading that makes entries.
-fn lacks_heading(groups: &[Group]) -> bool
-    ensures { result ≡ lacks_heading (contents_of groups.now) }
-{
-    for group in groups {
-        if is_incomplete(group) {
-            return true;
-        }
-    }
-    false
-}
-
 /// The dictionary that these groups are.
 fn of_groups(alloc: Global, groups: &[Group]) -> Result<Dictionary, DictError>
     ensures { (bytes : List ℕ) → LooseGroups bytes groups.now → ReadsDictionary bytes result }
@@ -117,16 +77,56 @@ fn of_groups(alloc: Global, groups: &[Group]) -> Result<Dictionary, DictError>
     }
 }
 
-impl Dictionary {
-    /// The dictionary that a file is.
-    pub fn read(alloc: Global, bytes: &[u8]) -> Result<Dictionary, DictError>
-        requires { length bytes.now ≤ READABLE }
-        ensures reads { ReadsDictionary bytes.now result }
-    {
-        match Scan::read_loose(alloc, bytes) {
-            Ok(scan) => of_groups(alloc, scan.groups()),
-            Err(RowsError::Findings(found)) => Err(DictError::NotDictionary(found)),
-            Err(RowsError::NoMemory) => Err(DictError::NoMemory),
+/// Whether one of the groups is DICT.
+pub fn has_dict(groups: &[Group]) -> bool
+    ensures { result ≡ has_dict (contents_of groups.now) }
+{
+    for group in groups {
+        if is_dict(group) {
+            return true;
         }
     }
+    false
+}
+
+/// Whether DICT lacks a heading that makes entries.
+fn lacks_heading(groups: &[Group]) -> bool
+    ensures { result ≡ lacks_heading (contents_of groups.now) }
+{
+    for group in groups {
+        if is_incomplete(group) {
+            return true;
+        }
+    }
+    false
+}
+
+/// Whether the group is DICT and lacks a heading that makes entries.
+fn is_incomplete(group: &Group) -> bool
+    ensures { result ≡ is_incomplete (group_contents group.now) }
+{
+    is_dict(group) && !has_dict_headings(group.headings.as_slice())
+}
+
+/// Whether a HEADING row has the headings that make entries.
+fn has_dict_headings(headings: &[Cell]) -> bool
+    ensures { result ≡ has_dict_headings headings.now }
+{
+    has(headings, b"DICT_TYPE")
+        && has(headings, b"DICT_GRP")
+        && has(headings, b"DICT_HDNG")
+        && has(headings, b"DICT_STAT")
+        && has(headings, b"DICT_PGRP")
+}
+
+/// Whether a HEADING row has a heading.
+fn has(headings: &[Cell], wanted: &[u8]) -> bool
+    ensures { result ≡ list_any (λ h. bytes_eq h wanted.now) headings.now }
+{
+    for heading in headings {
+        if heading.as_slice() == wanted {
+            return true;
+        }
+    }
+    false
 }

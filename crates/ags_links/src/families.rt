@@ -33,6 +33,47 @@ pub(crate) struct KeyedRows {
     pub(crate) by_file_set: Lookup,
 }
 
+/// What is kept for each group, and so for each row.
+pub(crate) fn families<'s, 'd>(
+    alloc: Global,
+    groups: &'s [Group<'_>],
+    dictionary: &'d Dictionary,
+    rows: &[PlacedRow<'_, '_>],
+) -> Result<Vec<Family<'s, 'd>>, AllocError>
+    requires { All (IsPlaced groups.now) rows.now }
+    ensures families { IfOk result (λ families. AreFamilies dictionary.now groups.now families.items) }
+    ensures kept { IfOk result (λ families. All (HasFamily dictionary.now families.items) rows.now) }
+{
+    let mut families = Vec::new(alloc);
+    for group in groups {
+        families.push(family_of(alloc, group, dictionary)?)?;
+    }
+    Ok(families)
+}
+
+/// What is kept for a group.
+fn family_of<'s, 'd>(
+    alloc: Global,
+    group: &'s Group<'_>,
+    dictionary: &'d Dictionary,
+) -> Result<Family<'s, 'd>, AllocError>
+    ensures { IfOk result (λ family. IsFamily dictionary.now group.now family) }
+{
+    let headings = Places::of_cells(alloc, group.headings.as_slice())?;
+    let listed = dictionary.keys(group.name.as_slice())?;
+    let key_headings = Places::of(alloc, listed)?;
+    let keys = heading_places(alloc, &headings, key_headings.names())?;
+    let file_set = headings.find(b"FILE_FSET");
+    let links = record_links(alloc, &headings, group)?;
+    Ok(Family {
+        headings,
+        key_headings,
+        keys,
+        file_set,
+        links,
+    })
+}
+
 /// Where the names are among the headings.
 pub(crate) fn heading_places(
     alloc: Global,
@@ -63,45 +104,16 @@ fn record_links(
     Ok(places)
 }
 
-/// What is kept for a group.
-fn family_of<'s, 'd>(
-    alloc: Global,
-    group: &'s Group<'_>,
-    dictionary: &'d Dictionary,
-) -> Result<Family<'s, 'd>, AllocError>
-    ensures { IfOk result (λ family. IsFamily dictionary.now group.now family) }
+/// What is kept for the row's group.
+pub(crate) fn family_at<'l, 's, 'd>(
+    dictionary: &Dictionary,
+    families: &'l [Family<'s, 'd>],
+    row: &PlacedRow<'_, '_>,
+) -> &'l Family<'s, 'd>
+    requires { HasFamily dictionary.now families.now row.now }
+    ensures { IsFamily dictionary.now row.now.group.now result.now }
 {
-    let headings = Places::of_cells(alloc, group.headings.as_slice())?;
-    let listed = dictionary.keys(group.name.as_slice())?;
-    let key_headings = Places::of(alloc, listed)?;
-    let keys = heading_places(alloc, &headings, key_headings.names())?;
-    let file_set = headings.find(b"FILE_FSET");
-    let links = record_links(alloc, &headings, group)?;
-    Ok(Family {
-        headings,
-        key_headings,
-        keys,
-        file_set,
-        links,
-    })
-}
-
-/// What is kept for each group, and so for each row.
-pub(crate) fn families<'s, 'd>(
-    alloc: Global,
-    groups: &'s [Group<'_>],
-    dictionary: &'d Dictionary,
-    rows: &[PlacedRow<'_, '_>],
-) -> Result<Vec<Family<'s, 'd>>, AllocError>
-    requires { All (IsPlaced groups.now) rows.now }
-    ensures families { IfOk result (λ families. AreFamilies dictionary.now groups.now families.items) }
-    ensures kept { IfOk result (λ families. All (HasFamily dictionary.now families.items) rows.now) }
-{
-    let mut families = Vec::new(alloc);
-    for group in groups {
-        families.push(family_of(alloc, group, dictionary)?)?;
-    }
-    Ok(families)
+    &families[row.place]
 }
 
 /// The rows by the names of their groups.
@@ -116,6 +128,29 @@ pub(crate) fn rows_by_group(alloc: Global, rows: &[PlacedRow<'_, '_>]) -> Result
         pairs.push((name, number as u32))?;
     }
     rows_by_text(alloc, pairs)
+}
+
+/// The rows by key and by file set.
+pub(crate) fn keyed_rows(
+    alloc: Global,
+    dictionary: &Dictionary,
+    rows: &[PlacedRow<'_, '_>],
+    families: &[Family<'_, '_>],
+) -> Result<KeyedRows, AllocError>
+    requires few { length rows.now < 2 ^ 32 }
+    requires kept { All (HasFamily dictionary.now families.now) rows.now }
+    ensures keyed { IfOk result (λ kept. Finds kept.by_key (HasText (map row_of rows.now) (HasKeyText dictionary.now))) }
+    ensures firsts { IfOk result (λ kept. AreFirstsOfKeys (map row_of rows.now) dictionary.now kept.firsts.items) }
+    ensures filed { IfOk result (λ kept. Finds kept.by_file_set (HasText (map row_of rows.now) HasFileSet)) }
+{
+    let by_key = rows_by_key(alloc, dictionary, rows, families)?;
+    let firsts = firsts_of_keys(alloc, dictionary, rows, &by_key)?;
+    let by_file_set = rows_by_file_set(alloc, dictionary, rows, families)?;
+    Ok(KeyedRows {
+        by_key,
+        firsts,
+        by_file_set,
+    })
 }
 
 /// The rows by their groups and key entries.
@@ -176,39 +211,4 @@ fn rows_by_file_set(
         }
     }
     rows_by_text(alloc, pairs)
-}
-
-/// The rows by key and by file set.
-pub(crate) fn keyed_rows(
-    alloc: Global,
-    dictionary: &Dictionary,
-    rows: &[PlacedRow<'_, '_>],
-    families: &[Family<'_, '_>],
-) -> Result<KeyedRows, AllocError>
-    requires few { length rows.now < 2 ^ 32 }
-    requires kept { All (HasFamily dictionary.now families.now) rows.now }
-    ensures keyed { IfOk result (λ kept. Finds kept.by_key (HasText (map row_of rows.now) (HasKeyText dictionary.now))) }
-    ensures firsts { IfOk result (λ kept. AreFirstsOfKeys (map row_of rows.now) dictionary.now kept.firsts.items) }
-    ensures filed { IfOk result (λ kept. Finds kept.by_file_set (HasText (map row_of rows.now) HasFileSet)) }
-{
-    let by_key = rows_by_key(alloc, dictionary, rows, families)?;
-    let firsts = firsts_of_keys(alloc, dictionary, rows, &by_key)?;
-    let by_file_set = rows_by_file_set(alloc, dictionary, rows, families)?;
-    Ok(KeyedRows {
-        by_key,
-        firsts,
-        by_file_set,
-    })
-}
-
-/// What is kept for the row's group.
-pub(crate) fn family_at<'l, 's, 'd>(
-    dictionary: &Dictionary,
-    families: &'l [Family<'s, 'd>],
-    row: &PlacedRow<'_, '_>,
-) -> &'l Family<'s, 'd>
-    requires { HasFamily dictionary.now families.now row.now }
-    ensures { IsFamily dictionary.now row.now.group.now result.now }
-{
-    &families[row.place]
 }

@@ -3,7 +3,7 @@
 ghost use Rattle.std.specs.Prelude.{◌≡◌, ◌<◌, ◌↔◌, ◌^◌, ◌++◌, IfOk, IfSome, IsSome, OnOk, map};
 
 use crate::index::Index;
-use crate::steps::targets;
+use crate::steps::rows_stepped_to;
 use std::alloc::{AllocError, Global};
 use std::marker::Model;
 
@@ -22,16 +22,6 @@ impl Model for Graph {
     ghost view = { λ g. record { rows = g.rows; steps = g.steps.items } };
 
     ghost invariant = { λ g. InRange g.rows g.steps.items };
-}
-
-/// Adds a step from the row to each target.
-fn add_steps(steps: &mut Vec<(u32, u32)>, row: u32, targets: &[u32]) -> Result<(), AllocError>
-    ensures { OnOk result (steps.new.items ≡ steps.old.items ++ map (λ target. (row, target)) targets.now) }
-{
-    for target in targets {
-        steps.push((row, *target))?;
-    }
-    Ok(())
 }
 
 impl Graph {
@@ -59,7 +49,7 @@ impl Graph {
         let rows = index.row_count();
         let mut steps = Vec::new(alloc);
         for row in 0..rows {
-            add_steps(&mut steps, row, &targets(alloc, index, row)?)?;
+            add_steps(&mut steps, row, &rows_stepped_to(alloc, index, row)?)?;
         }
         Ok(Graph { rows, steps })
     }
@@ -81,4 +71,14 @@ impl Graph {
         let _rows = self.rows;
         &self.steps
     }
+}
+
+/// Adds a step from the row to each target.
+fn add_steps(steps: &mut Vec<(u32, u32)>, row: u32, targets: &[u32]) -> Result<(), AllocError>
+    ensures { OnOk result (steps.new.items ≡ steps.old.items ++ map (λ target. (row, target)) targets.now) }
+{
+    for target in targets {
+        steps.push((row, *target))?;
+    }
+    Ok(())
 }

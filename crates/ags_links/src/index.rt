@@ -74,17 +74,6 @@ impl<'s, 'f, 'd> Model for Index<'s, 'f, 'd> {
         i.spans.items i.firsts.items i.by_key i.by_file_set i.separators };
 }
 
-/// The numbers rising, each once.
-pub(crate) fn each_once(numbers: Vec<u32>) -> Vec<u32>
-    ensures rising { IsStrictlyIncreasing result.items }
-    ensures same { (n : ℕ) → Contains result.items n ↔ Contains numbers.items n }
-{
-    let mut sorted = numbers;
-    sorted.sort_unstable();
-    sorted.dedup();
-    sorted
-}
-
 impl<'s, 'f, 'd> Index<'s, 'f, 'd> {
     ghost use Rattle.ags_rows.specs.Collecting.{At};
     ghost use Rattle.ags_links.specs.DataRows.{ListsRows};
@@ -274,4 +263,15 @@ impl<'s, 'f, 'd> Index<'s, 'f, 'd> {
         }
         Ok(Targets::Rows(each_once(found)))
     }
+}
+
+/// The numbers rising, each once.
+pub(crate) fn each_once(numbers: Vec<u32>) -> Vec<u32>
+    ensures rising { IsStrictlyIncreasing result.items }
+    ensures same { (n : ℕ) → Contains result.items n ↔ Contains numbers.items n }
+{
+    let mut sorted = numbers;
+    sorted.sort_unstable();
+    sorted.dedup();
+    sorted
 }

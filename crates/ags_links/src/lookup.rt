@@ -46,12 +46,44 @@ pub(crate) fn rows_by_text(alloc: Global, pairs: Vec<(Vec<u8>, u32)>) -> Result<
     })
 }
 
-/// Whether the pair is before those of the text, or, up to these, not after them.
-fn comes_before(pair: &(Vec<u8>, u32), text: &[u8], upto: bool) -> bool
-    ensures { result ≡ comes_before upto text.now pair.now }
+/// The rows that have the text.
+pub(crate) fn rows_with<'l>(lookup: &'l Lookup, text: &[u8]) -> &'l [u32]
+    ensures { result.now ≡ found lookup.now text.now }
 {
-    let order = pair.0.as_slice().cmp(text);
-    if upto { order.is_le() } else { order.is_lt() }
+    rows_of_span(lookup, span_of(lookup, 0, text))
+}
+
+/// The rows of a span.
+pub(crate) fn rows_of_span(lookup: &Lookup, span: Span) -> &[u32]
+    requires { IsWithin lookup.now span }
+    ensures { result.now ≡ rows_between lookup.now span.first span.end }
+{
+    &lookup.rows[span.first..span.end]
+}
+
+/// Where the pairs of the text are. They are found at once where they begin at the place that is tried first.
+pub(crate) fn span_of(lookup: &Lookup, near: usize, text: &[u8]) -> Span
+    ensures { IsSpanOf lookup.now text.now result }
+{
+    let pairs = lookup.pairs.as_slice();
+    let first = boundary(pairs, near, text, false);
+    let end = boundary(pairs, first.saturating_add(1), text, true);
+    Span { first, end }
+}
+
+/// The end of the pairs that `comes_before` holds of. A place that is near is tried first.
+fn boundary(pairs: &[(Vec<u8>, u32)], near: usize, text: &[u8], upto: bool) -> usize
+    requires { AreInOrder pairs.now }
+    ensures { IsBoundary upto text.now pairs.now result }
+{
+    if near <= pairs.len()
+        && may_end(pairs, near, text, upto)
+        && may_begin(pairs, near, text, upto)
+    {
+        near
+    } else {
+        pairs.partition_point(|pair| comes_before(pair, text, upto))
+    }
 }
 
 /// Whether `comes_before` holds of the last pair below the place, if there is one.
@@ -70,29 +102,12 @@ fn may_begin(pairs: &[(Vec<u8>, u32)], place: usize, text: &[u8], upto: bool) ->
     place == pairs.len() || !comes_before(&pairs[place], text, upto)
 }
 
-/// The end of the pairs that `comes_before` holds of. A place that is near is tried first.
-fn boundary(pairs: &[(Vec<u8>, u32)], near: usize, text: &[u8], upto: bool) -> usize
-    requires { AreInOrder pairs.now }
-    ensures { IsBoundary upto text.now pairs.now result }
+/// Whether the pair is before those of the text, or, up to these, not after them.
+fn comes_before(pair: &(Vec<u8>, u32), text: &[u8], upto: bool) -> bool
+    ensures { result ≡ comes_before upto text.now pair.now }
 {
-    if near <= pairs.len()
-        && may_end(pairs, near, text, upto)
-        && may_begin(pairs, near, text, upto)
-    {
-        near
-    } else {
-        pairs.partition_point(|pair| comes_before(pair, text, upto))
-    }
-}
-
-/// Where the pairs of the text are. They are found at once where they begin at the place that is tried first.
-pub(crate) fn span_of(lookup: &Lookup, near: usize, text: &[u8]) -> Span
-    ensures { IsSpanOf lookup.now text.now result }
-{
-    let pairs = lookup.pairs.as_slice();
-    let first = boundary(pairs, near, text, false);
-    let end = boundary(pairs, first.saturating_add(1), text, true);
-    Span { first, end }
+    let order = pair.0.as_slice().cmp(text);
+    if upto { order.is_le() } else { order.is_lt() }
 }
 
 /// The rows of all pairs, in their order.
@@ -100,21 +115,6 @@ pub(crate) fn all_rows(lookup: &Lookup) -> &[u32]
     ensures { result.now ≡ map (λ p. p.1) lookup.now }
 {
     &lookup.rows
-}
-
-/// The rows of a span.
-pub(crate) fn rows_of_span(lookup: &Lookup, span: Span) -> &[u32]
-    requires { IsWithin lookup.now span }
-    ensures { result.now ≡ rows_between lookup.now span.first span.end }
-{
-    &lookup.rows[span.first..span.end]
-}
-
-/// The rows that have the text.
-pub(crate) fn rows_with<'l>(lookup: &'l Lookup, text: &[u8]) -> &'l [u32]
-    ensures { result.now ≡ found lookup.now text.now }
-{
-    rows_of_span(lookup, span_of(lookup, 0, text))
 }
 
 /// For each row that has a text the first row that has it, at the row's place among so many.

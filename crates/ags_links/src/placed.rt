@@ -16,12 +16,23 @@ pub(crate) struct PlacedRow<'s, 'f> {
     pub(crate) row: &'s Row<'f>,
 }
 
-/// What is in the row at a place; null where there is none.
-pub(crate) fn field<'s>(row: &PlacedRow<'s, '_>, place: Option<usize>) -> &'s [u8]
-    ensures { result.now ≡ field_at (row_of row.now).fields place }
+/// The DATA rows of a file, numbered from 0 over the whole file.
+pub(crate) fn place_rows<'s, 'f>(
+    alloc: Global,
+    scan: &'s Scan<'f>,
+) -> Result<Vec<PlacedRow<'s, 'f>>, AllocError>
+    ensures placed { IfOk result (λ rows. All (IsPlaced scan.now) rows.items) }
+    ensures rows { IfOk result (λ rows. map row_of rows.items ≡ data_rows (contents_of scan.now)) }
+    ensures few { IfOk result (λ rows. length rows.items < 2 ^ 32) }
 {
-    let fields = row.row;
-    cell_at(fields.cells.as_slice(), place)
+    // the scan counts them with a number below 2 ^ 32
+    let count = scan.row_count();
+    let groups = scan.groups();
+    let mut rows = Vec::with_capacity(alloc, count as usize)?;
+    for place in 0..groups.len() {
+        place_group(groups, place, &mut rows)?;
+    }
+    Ok(rows)
 }
 
 /// Adds the rows of one group.
@@ -42,21 +53,10 @@ fn place_group<'s, 'f>(
     Ok(())
 }
 
-/// The DATA rows of a file, numbered from 0 over the whole file.
-pub(crate) fn place_rows<'s, 'f>(
-    alloc: Global,
-    scan: &'s Scan<'f>,
-) -> Result<Vec<PlacedRow<'s, 'f>>, AllocError>
-    ensures placed { IfOk result (λ rows. All (IsPlaced scan.now) rows.items) }
-    ensures rows { IfOk result (λ rows. map row_of rows.items ≡ data_rows (contents_of scan.now)) }
-    ensures few { IfOk result (λ rows. length rows.items < 2 ^ 32) }
+/// What is in the row at a place; null where there is none.
+pub(crate) fn field<'s>(row: &PlacedRow<'s, '_>, place: Option<usize>) -> &'s [u8]
+    ensures { result.now ≡ field_at (row_of row.now).fields place }
 {
-    // the scan counts them with a number below 2 ^ 32
-    let count = scan.row_count();
-    let groups = scan.groups();
-    let mut rows = Vec::with_capacity(alloc, count as usize)?;
-    for place in 0..groups.len() {
-        place_group(groups, place, &mut rows)?;
-    }
-    Ok(rows)
+    let fields = row.row;
+    cell_at(fields.cells.as_slice(), place)
 }

@@ -14,7 +14,7 @@ use ags_rows::is_definition;
 use std::alloc::{AllocError, Global};
 
 /// The rows that a row steps to, rising, each once.
-pub(crate) fn targets(
+pub(crate) fn rows_stepped_to(
     alloc: Global,
     index: &Index<'_, '_, '_>,
     row: u32,

@@ -1,6 +1,6 @@
 -- A file has fewer rows than bytes, and a group no more DATA rows than rows.
 use Rattle.std.proofs.Common.{◌≡◌, ℕ, ◌+◌, ◌<◌, ◌≤◌, List, [], ◌∷◌, ◌++◌, length, flat_map, ap, sym, ◌∙◌, arith, inl, inr, take, drop, get_or}
-use Rattle.std.proofs.lemmas.List.{length-append, length-map, take_more, take_all, take-append-drop}
+use Rattle.std.proofs.lemmas.List.{length-append, length-map, take_more, take-append-drop}
 use Rattle.std.proofs.lemmas.Grind.{flat_map-append}
 use Rattle.ags_rows.specs.declared.rows.FileRow.{FileRow}
 use Rattle.ags_rows.specs.declared.rows.Row.{Row}
@@ -52,6 +52,3 @@ row_count_step groups i g lt at =
 -- they are some of all rows
 pub row_count_within : (groups : List Group) (i : ℕ) → row_count (take i groups) ≤ row_count groups
 row_count_within groups i = omega (arith, ap row_count (take-append-drop i groups), joined (take i groups) (drop i groups))
-
-pub row_count_all : (groups : List Group) (i : ℕ) → length groups ≤ i → row_count (take i groups) ≡ row_count groups
-row_count_all groups i le = ap row_count (take_all i groups le)

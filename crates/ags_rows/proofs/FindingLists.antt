@@ -1,6 +1,5 @@
 -- Findings without a subject, in the order of findings.
-use Rattle.std.proofs.Common.{◌≡◌, ℕ, ◌+◌, ◌<◌, ◌≤◌, List, [], ◌∷◌, ◌++◌, map, get_or, take, length, sym, ap, subst, ◌∙◌}
-use Rattle.std.proofs.lemmas.List.{map_more, take_all}
+use Rattle.std.proofs.Common.{◌≡◌, List, [], ◌∷◌, map, ap, subst}
 use Rattle.std.proofs.lemmas.List.Elements.{All-from_recursion, All-map, recursion_from_All}
 use Rattle.std.specs.Prelude.{Contains}
 use Rattle.std.specs.List.{AllByRecursion}
@@ -10,7 +9,6 @@ use Rattle.std.specs.declared.cmp.Ordering.{Ordering}
 use Rattle.std.specs.declared.cmp.Ordering.TheVariants.{Less}
 use Rattle.std.proofs.lemmas.Map.Lookups.{CmpEqualImpliesEq}
 use Rattle.ags_rows.specs.declared.finding.Finding.{Finding}
-use Rattle.ags_rows.specs.declared.finding.Bare.{Bare}
 use Rattle.ags_rows.specs.FindingLists.{bare_cmp, bare_finding}
 use Rattle.ags_rows.proofs.AtPlaces.{at_contained, at_map, at_mapped, contains_at}
 use Rattle.ags_rows.proofs.Files.{finding_exact}
@@ -33,18 +31,3 @@ mapped_within f xs ys within y h =
     let one = at_mapped f xs h.0 y (at_contained (map f xs) y h) in
     let there = within one.0 (contains_at xs h.0 one.0 one.1) in
     subst (Contains (map f ys)) one.2 (contains_at (map f ys) there.0 (f one.0) (at_map f ys there.0 one.0 (at_contained ys one.0 there)))
-
--- ---- with room for a subject
-
-pub bare_same : (one : Bare) (subject : List ℕ) → subject ≡ [] → record { line = one.line; code = one.code; subject = subject } ≡ bare_finding one
-bare_same one subject none = ap (λ (s : List ℕ). record { line = one.line; code = one.code; subject = s }) none
-
-pub bare_more : (bare : List Bare) (full new : List Finding) (i : ℕ) (d : Bare) (one : Finding) → i < length bare → full ≡ map bare_finding (take i bare) → new ≡ full ++ one ∷ []
-    → one ≡ bare_finding (get_or bare i d) → new ≡ map bare_finding (take (i + 1) bare)
-bare_more bare full new i d one lt e h is =
-    h ∙ ap (λ (x : List Finding). x ++ one ∷ []) e
-    ∙ ap (λ (y : Finding). map bare_finding (take i bare) ++ y ∷ []) is
-    ∙ sym (map_more bare_finding bare i d lt)
-
-pub bare_done : (bare : List Bare) (full : List Finding) (i : ℕ) → length bare ≤ i → full ≡ map bare_finding (take i bare) → full ≡ map bare_finding bare
-bare_done bare full i le e = e ∙ ap (λ (x : List Bare). map bare_finding x) (take_all i bare le)

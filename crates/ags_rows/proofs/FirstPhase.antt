@@ -1,5 +1,5 @@
 -- What is read where the first phase finds nothing, the groups or what a later phase finds, and what the first phase finds.
-use Rattle.std.proofs.Common.{◌≡◌, ◌≢◌, ℕ, ◌≤◌, List, [], ◌∷◌, length, refl, subst, sym, inl, inr}
+use Rattle.std.proofs.Common.{◌≡◌, ℕ, ◌≤◌, List, [], ◌∷◌, length, refl, subst, sym, inl, inr}
 use Rattle.ags_rows.specs.declared.rows.FileRow.{FileRow}
 use Rattle.ags_rows.specs.declared.rows.Group.{Group}
 use Rattle.ags_rows.specs.declared.finding.Finding.{Finding}
@@ -60,10 +60,6 @@ rows_loose bytes lines noted rows found cut none h =
 
 pub few_rows : (Stands : List TextLine → Finding → Type 0) (bytes : List ℕ) (rows : List FileRow) (found : List Finding) (most : ℕ) → AreRows Stands bytes rows found → length bytes ≤ most → length rows ≤ most
 few_rows Stands bytes rows found most h le = rows_within bytes h.0.lines rows most h.1.lines (subst (λ (r : List FileRow). RowsFrom 1 h.0.lines r) h.2 h.1.rows) le
-
-pub found_first : (Stands : List TextLine → Finding → Type 0) (bytes : List ℕ) (rows : List FileRow) (found : List Finding) → found ≢ [] → AreRows Stands bytes rows found
-    → (file : FileParts) × ArePartsOf bytes file × FirstFound (Stands file.lines ∷ later_phases file.rows file.groups) found
-found_first Stands bytes rows found some h = (h.0, h.1, inl (h.3, some))
 
 pub found_later : (Stands : List TextLine → Finding → Type 0) (bytes : List ℕ) (rows : List FileRow) (found : List Finding) → AreRows Stands bytes rows []
     → LaterFindings rows found

@@ -1,5 +1,5 @@
 -- The first places of names in a list.
-use Rattle.std.proofs.Common.{◌≡◌, ℕ, ◌+◌, ◌<◌, ◌≤◌, Bool, true, false, not, cond, eqb, ltb, Option, Some, None, List, [], ◌∷◌, ◌++◌, length, take, get_or, map, refl, sym, ap, subst, ◌∙◌, arith}
+use Rattle.std.proofs.Common.{◌≡◌, ℕ, ◌+◌, ◌<◌, ◌≤◌, Bool, true, false, not, cond, eqb, ltb, Option, Some, None, List, [], ◌∷◌, ◌++◌, length, take, get_or, map, refl, ap, subst, ◌∙◌, arith}
 use Rattle.std.specs.Prelude.{is_some}
 use Rattle.std.specs.Borrow.{Bor}
 use Rattle.std.specs.Ordering.{nat_cmp}
@@ -8,7 +8,7 @@ use Rattle.std.specs.List.{position_or_len}
 use Rattle.std.specs.Cmp.Lexicographic.{slice_cmp}
 use Rattle.std.specs.BTreeMap.{BTreeMap, UpdatesBy}
 use Rattle.std.proofs.lemmas.Bool.{true≢false}
-use Rattle.std.proofs.lemmas.List.{take_all, take_more, length-take-le, length_push, length-map, map-append}
+use Rattle.std.proofs.lemmas.List.{take_more, length-take-le, length_push, length-map, map-append}
 use Rattle.std.proofs.lemmas.List.Sums.{prefix_len-le-length}
 use Rattle.std.proofs.lemmas.Bool.Decides.{nat_tests}
 use Rattle.std.proofs.lemmas.List.Folds.{position_or_len_push}
@@ -65,14 +65,3 @@ added name place old new absent updates other =
     btree_map_updates_str name old new (Some place) updates other
     ∙ added_by (bytes_eq name other) (place_at old other) place
     (λ e. subst (λ n. place_at old n ≡ None) ((bytes_eq-Decides name other).0 e) (none_there (place_at old name) absent))
-
--- ---- the names in cells
-
-pub names_more : (cells : List (List ℕ)) (names new : List (Bor (List ℕ))) (name : Bor (List ℕ)) (i : ℕ) (d : List ℕ) → i < length cells → map (λ n. n.now) names ≡ take i cells → new ≡ names ++ name ∷ []
-    → name.now ≡ get_or cells i d → map (λ n. n.now) new ≡ take (i + 1) cells
-names_more cells names new name i d lt e h is =
-    ap (map (λ n. n.now)) h ∙ map-append (λ (n : Bor (List ℕ)). n.now) names (name ∷ []) ∙ ap (λ x. x ++ name.now ∷ []) e
-    ∙ ap (λ x. take i cells ++ x ∷ []) is ∙ sym (take_more cells i d lt)
-
-pub names_done : (cells : List (List ℕ)) (names : List (Bor (List ℕ))) (i : ℕ) → length cells ≤ i → map (λ n. n.now) names ≡ take i cells → map (λ n. n.now) names ≡ cells
-names_done cells names i le e = e ∙ take_all i cells le

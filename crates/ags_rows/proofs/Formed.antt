@@ -11,10 +11,11 @@ use Rattle.ags_rows.specs.declared.finding.Finding.{Finding}
 use Rattle.ags_text.specs.Names.{is_group_name, is_heading_name}
 use Rattle.ags_rows.specs.Collecting.{At, finding_at, OneOf}
 use Rattle.ags_rows.specs.Stands.{shape_rules, StandsInGroups}
-use Rattle.ags_rows.specs.Parsing.{StandsInName, StandsInHeadings}
+use Rattle.ags_rows.specs.Parsing.{StandsInHeadings}
 use Rattle.ags_rows.specs.Contents.{Contents, contents_of, fields_of, group_contents}
 use Rattle.ags_rows.specs.Writing.{ArePlain, IsPlainGroup, AreUnder, AreHeadings, AreDistinct, group_names, IsWellFormedGroup, IsWellFormed}
 use Rattle.ags_rows.proofs.AtPlaces.{all_at, all_from_at, at_map, at_mapped}
+use Rattle.ags_rows.proofs.Repeats.{StandsInName}
 use Rattle.ags_rows.proofs.WellFormed.{once_apart, once_from}
 
 -- ---- the names of groups

@@ -3,8 +3,7 @@ use Rattle.std.proofs.Common.{◌≡◌, ℕ, ◌+◌, Bool, true, false, cond, 
 use Rattle.std.specs.Prelude.{◌⊎◌, ◌↔◌, is_some}
 use Rattle.std.specs.Str.{bytes_eq}
 use Rattle.std.specs.Borrow.{Bor}
-use Rattle.std.specs.BTreeMap.{BTreeMap, UpdatesBy, is_at}
-use Rattle.std.specs.Map.{lookup}
+use Rattle.std.specs.BTreeMap.{BTreeMap, UpdatesBy}
 use Rattle.std.specs.Cmp.Lexicographic.{slice_cmp}
 use Rattle.std.proofs.lemmas.Bool.{eqb-true, eq-eqb}
 use Rattle.std.proofs.lemmas.List.{nil_from_length}
@@ -15,9 +14,9 @@ use Rattle.ags_rows.specs.declared.code.Code.TheVariants.{Rule19, Rule19a, P1, P
 use Rattle.ags_rows.specs.declared.finding.Finding.{Finding}
 use Rattle.ags_rows.specs.declared.rows.Group.{Group}
 use Rattle.ags_text.specs.Names.{is_group_name, is_heading_name}
-use Rattle.ags_rows.specs.Collecting.{At, Adds, OneOf}
+use Rattle.ags_rows.specs.Collecting.{At, Adds, Notes, OneOf}
 use Rattle.ags_rows.specs.Stands.{IsRepeat, shape_rules, group_rules}
-use Rattle.ags_rows.specs.Parsing.{StandsInName, IsMet, met_rules, StandsInHeadings}
+use Rattle.ags_rows.specs.Parsing.{IsMet, met_rules, StandsInHeadings}
 use Rattle.ags_rows.proofs.Collecting.{adds_same, before_or_at}
 use Rattle.ags_rows.proofs.AtPlaces.{at_same}
 
@@ -44,17 +43,6 @@ pub met_after : (name : List ℕ) (met new : BTreeMap (Bor (List ℕ)) (Unit {0}
 met_after name met new updates other =
     subst (λ o. (is_some o ≡ true) ↔ ((name ≡ other) ⊎ IsMet met other)) (sym (btree_map_updates_str name met new _ updates other)) (put_in name other tt _)
 
--- there is no key in a map without entries
-none_in : (entries : List (Bor (List ℕ) × Unit {0})) (q : List ℕ) → entries ≡ [] → is_some (lookup (is_at (λ (key : Bor (List ℕ)). slice_cmp nat_cmp q key.now)) entries) ≡ true → ⊥
-none_in [] q e h = absurd cc
-none_in (x ∷ entries) q e h = absurd cc
-
-pub none_met : (met : BTreeMap (Bor (List ℕ)) (Unit {0})) (q : List ℕ) → met.entries ≡ [] → IsMet met q → ⊥
-none_met met q e h = none_in met.entries q e h
-
-pub none_before : (names : List (List ℕ)) (name : List ℕ) → IsRepeat names 0 name → ⊥
-none_before names name h = omega (arith, h.1)
-
 -- what was met before one more name, and after it
 pub repeat_more : (names : List (List ℕ)) (i : ℕ) (name : List ℕ) (Old New : List ℕ → Type 0) → At names i name → ((q : List ℕ) → Old q ↔ IsRepeat names i q)
     → ((q : List ℕ) → New q ↔ ((name ≡ q) ⊎ Old q)) → (q : List ℕ) → New q ↔ IsRepeat names (i + 1) q
@@ -70,6 +58,11 @@ repeat_more names i name Old New at before more q = (
 )
 
 -- ---- the same rules in other words
+
+-- of a name at a place of a list: that it may not be one, and that it is at an earlier place as well
+abbrev pub StandsInName : ℕ → Code → Code → (List ℕ → Bool) → List (List ℕ) → ℕ → List ℕ → Finding → Type 0
+StandsInName line wrong repeated is_name names place name =
+    OneOf (Notes line wrong name (is_name name ≡ false) ∷ Notes line repeated name (IsRepeat names place name) ∷ [])
 
 met_to : (line : ℕ) (wrong repeated : Code) (name : List ℕ) (is_name : Bool) (Met Repeat : Type 0) → (Met → Repeat) → (f : Finding) → OneOf (met_rules line wrong repeated name is_name Met) f → OneOf (met_rules line wrong repeated name is_name Repeat) f
 met_to line wrong repeated name is_name Met Repeat to f (inl k) = inl k

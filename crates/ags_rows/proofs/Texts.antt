@@ -1,14 +1,10 @@
 -- Texts that are written a part at a time, for those who write a file group by group and row by row.
-use Rattle.std.proofs.Common.{◌≡◌, ℕ, List, [], ◌∷◌, ◌++◌, ◌+◌, ◌<◌, ◌≤◌, length, get_or, take, map, sym, ap, ◌∙◌, append_assoc}
+use Rattle.std.proofs.Common.{◌≡◌, ℕ, List, [], ◌∷◌, ◌++◌, ◌+◌, ◌<◌, length, get_or, take, map, sym, ap, ◌∙◌, append_assoc}
 use Rattle.std.proofs.lemmas.Grind.{flat_map-append}
-use Rattle.std.proofs.lemmas.List.{append-nil, map-append, take_all, take_more}
+use Rattle.std.proofs.lemmas.List.{append-nil, map-append, take_more}
 use Rattle.ags_rows.specs.declared.rows.Descriptor.TheVariants as kinds
 use Rattle.ags_rows.specs.declared.rows.Row.{Row}
-use Rattle.ags_rows.specs.declared.rows.Ending.TheVariants.{CrLf}
-use Rattle.ags_text.specs.Bytes.{comma}
-use Rattle.ags_rows.specs.Spelling.{quoted}
-use Rattle.ags_rows.specs.Rows.{descriptor_text}
-use Rattle.ags_rows.specs.Lines.{TextLine, ending_bytes, line_bytes}
+use Rattle.ags_rows.specs.Lines.{TextLine, line_bytes}
 use Rattle.ags_rows.specs.Contents.{Contents, fields_of}
 use Rattle.ags_rows.specs.Writing.{written_row, contents_from, group_lines, text_of}
 
@@ -49,32 +45,3 @@ group_more old out new group rows i d lt before next =
     ∙ ap (λ (cells : List (List (List ℕ))). text_of (group_lines (with_rows group cells))) (map-append fields_of (take i rows) (get_or rows i d ∷ []))
     ∙ group_push group (map fields_of (take i rows)) (get_or rows i d).cells in
     next ∙ ap (λ (front : List ℕ). front ++ line) before ∙ append_assoc old (text (take i rows)) line ∙ ap (λ (back : List ℕ). old ++ back) (sym more)
-
-three_parts : (old a b c : List ℕ) → ((old ++ a) ++ b) ++ c ≡ old ++ ((a ++ (b ++ [])) ++ c)
-three_parts old a b c = simp (append_assoc, append-nil)
-
--- the text of a GROUP row, from its parts
-pub name_line : (old one two three first name : List ℕ) → first ≡ descriptor_text kinds.Group → one ≡ old ++ quoted first → two ≡ one ++ comma ∷ quoted name → three ≡ two ++ ending_bytes CrLf
-    → three ≡ old ++ line_bytes (written_row kinds.Group (name ∷ []))
-name_line old one two three first name is e1 e2 e3 =
-    let field = quoted (descriptor_text kinds.Group) in
-    e3 ∙ ap (λ (z : List ℕ). z ++ ending_bytes CrLf) (e2 ∙ ap (λ (z : List ℕ). z ++ comma ∷ quoted name) (e1 ∙ ap (λ (z : List ℕ). old ++ quoted z) is))
-    ∙ three_parts old field (comma ∷ quoted name) (ending_bytes CrLf)
-
-four_parts : (old a b c d : List ℕ) → (((old ++ a) ++ b) ++ c) ++ d ≡ old ++ (a ++ (b ++ (c ++ (d ++ []))))
-four_parts old a b c d = simp (append_assoc, append-nil)
-
--- the text of a group before its DATA rows
-pub group_begun : (old one two three four : List ℕ) (group : Contents) → one ≡ old ++ line_bytes (written_row kinds.Group (group.name ∷ [])) → two ≡ one ++ line_bytes (written_row kinds.Heading group.headings)
-    → three ≡ two ++ line_bytes (written_row kinds.Unit group.units) → four ≡ three ++ line_bytes (written_row kinds.Type group.types) → four ≡ old ++ text_of (group_lines (with_rows group []))
-group_begun old one two three four group e1 e2 e3 e4 =
-    let name = line_bytes (written_row kinds.Group (group.name ∷ [])) in
-    let headings = line_bytes (written_row kinds.Heading group.headings) in
-    let units = line_bytes (written_row kinds.Unit group.units) in
-    let types = line_bytes (written_row kinds.Type group.types) in
-    e4 ∙ ap (λ (z : List ℕ). z ++ types) (e3 ∙ ap (λ (z : List ℕ). z ++ units) (e2 ∙ ap (λ (z : List ℕ). z ++ headings) e1)) ∙ four_parts old name headings units types
-
--- the text of a group, when all its rows are written
-pub group_done : (old out : List ℕ) (group : Contents) (rows : List Row) (i : ℕ) → length rows ≤ i
-    → out ≡ old ++ text_of (group_lines (with_rows group (map fields_of (take i rows)))) → out ≡ old ++ text_of (group_lines (with_rows group (map fields_of rows)))
-group_done old out group rows i le e = e ∙ ap (λ (some : List Row). old ++ text_of (group_lines (with_rows group (map fields_of some)))) (take_all i rows le)

@@ -33,34 +33,6 @@ impl<'n> Model for Places<'n> {
     ghost invariant = { λ p. AreFirst p.first (map (λ name. name.now) p.names.items) };
 }
 
-/// Adds a name at a place, unless it has an earlier one.
-fn add_name<'n>(
-    first: &mut BTreeMap<&'n [u8], usize>,
-    name: &'n [u8],
-    place: usize,
-) -> Result<(), AllocError>
-    ensures { OnOk result (AddsPlace first.old first.new name.entry.now place) }
-{
-    if !first.contains_key(name) {
-        first.insert(name, place)?;
-    }
-    Ok(())
-}
-
-/// The first place of each of these names.
-fn first_places<'n>(
-    alloc: Global,
-    names: &[&'n [u8]],
-) -> Result<BTreeMap<&'n [u8], usize>, AllocError>
-    ensures { IfOk result (λ first. AreFirst first (map (λ name. name.now) names.now)) }
-{
-    let mut first = BTreeMap::new(alloc);
-    for (place, name) in names.iter().enumerate() {
-        add_name(&mut first, name, place)?;
-    }
-    Ok(first)
-}
-
 impl<'n> Places<'n> {
     /// The places of these names.
     pub fn of(alloc: Global, names: Vec<&'n [u8]>) -> Result<Self, AllocError>
@@ -94,4 +66,32 @@ impl<'n> Places<'n> {
     {
         self.first.get(name).copied()
     }
+}
+
+/// The first place of each of these names.
+fn first_places<'n>(
+    alloc: Global,
+    names: &[&'n [u8]],
+) -> Result<BTreeMap<&'n [u8], usize>, AllocError>
+    ensures { IfOk result (λ first. AreFirst first (map (λ name. name.now) names.now)) }
+{
+    let mut first = BTreeMap::new(alloc);
+    for (place, name) in names.iter().enumerate() {
+        add_name(&mut first, name, place)?;
+    }
+    Ok(first)
+}
+
+/// Adds a name at a place, unless it has an earlier one.
+fn add_name<'n>(
+    first: &mut BTreeMap<&'n [u8], usize>,
+    name: &'n [u8],
+    place: usize,
+) -> Result<(), AllocError>
+    ensures { OnOk result (AddsPlace first.old first.new name.entry.now place) }
+{
+    if !first.contains_key(name) {
+        first.insert(name, place)?;
+    }
+    Ok(())
 }

@@ -22,11 +22,6 @@ table_is d ms e = sym (data_of_table d ms (sym e))
 pub array_is : (d : Data) (ds : Items) → Some ds ≡ as_array d → array ds ≡ d
 array_is d ds e = sym (data_of_array d ds (sym e))
 
--- a value that is no table has nothing that a table has
-pub no_table : {A : Type 0} (P : Members → A → Type 0) (d : Data) → None ≡ as_table d → (a : A) → ¬ (InTable P d a)
-no_table P (table ms) e a h = cc
-no_table P d e a h = h
-
 -- a slice of keys has a key as the list of these keys has it
 pub known_in : (known : List (Bor (List ℕ))) (key : List ℕ) → list_any (λ k. bytes_eq k.now key) known ≡ is_known_key (map (λ k. k.now) known) key
 known_in [] key = refl

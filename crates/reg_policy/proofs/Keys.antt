@@ -1,12 +1,9 @@
 -- What the accessors of a value say of the keys of a table.
-use Rattle.std.proofs.Common.{◌≡◌, ℕ, List, Bool, true, false, cond, codes, Option, Some, None, Ok, Err, Bor, IsTrue, ℤ, refl, sym, ap, ◌∙◌, subst, inr}
-use Rattle.std.proofs.lemmas.Bool.{false≢true}
-use Rattle.std.proofs.lemmas.Slice.Eq.{bytes_eq-Decides}
-use Rattle.std.specs.Str.{bytes_eq}
+use Rattle.std.proofs.Common.{◌≡◌, ℕ, List, Option, Some, None, Ok, Err, Bor, IsTrue, ℤ, refl, sym, ap, subst}
 use Rattle.toml.specs.Data.{Data, string, as_str}
 use Rattle.reg_policy.specs.Days.{Writes, is_day_number}
-use Rattle.reg_policy.specs.Rules.{IsDayAt, IsSettingOf}
-use Rattle.reg_policy.specs.Readers.{GivesText, GivesWord}
+use Rattle.reg_policy.specs.Rules.{IsDayAt}
+use Rattle.reg_policy.specs.Readers.{GivesText}
 use Rattle.reg_policy.specs.declared.document.ReadError.TheVariants.{BadValue}
 
 text_in : (d : Data) (t : Bor (List ℕ)) → as_str d ≡ Some t.now → GivesText (Some d) (Ok (Some t))
@@ -25,18 +22,6 @@ text_bad o d e f = rw (← e) (no_text_in d f)
 
 pub text_none : (o : Option Data) → None ≡ o → GivesText o (Ok None)
 text_none o e = rw (← e) refl
-
-word_cases : {A : Type 0} (W : List ℕ → A → Type 0) (s t : List ℕ) (a : A) (b : Bool) → bytes_eq s (codes "*") ≡ b → Some t ≡ cond b None (Some s) → W t a
-    → IsSettingOf W (Some (string s)) (Some a)
-word_cases W s t a true is e w = cc
-word_cases W s t a false is e w =
-    let same : t ≡ s = cc in
-    inr ((λ star. false≢true (sym is ∙ (bytes_eq-Decides s (codes "*")).1 star)), a, subst (λ z. W z a) same w, refl)
-
--- a word that is no `*`, and what it means
-pub word_some : {A : Type 0} (W : List ℕ → A → Type 0) (o : Option Data) (t : Bor (List ℕ)) (a : A) → GivesWord o (Ok (Some t)) → W t.now a → IsSettingOf W o (Some a)
-word_some W (Some (string s)) t a h w = word_cases W s t.now a (bytes_eq s (codes "*")) refl h.0 w
-word_some W o t a h w = cc
 
 -- a text that writes a day
 pub day_some : (o : Option Data) (t : Bor (List ℕ)) (day : ℤ) → GivesText o (Ok (Some t)) → Writes t.now day × IsTrue (is_day_number day)

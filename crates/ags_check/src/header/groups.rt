@@ -40,16 +40,6 @@ pub(crate) fn note_unknown_group(
     Ok(())
 }
 
-/// Whether the group has a parent group that is not in the file.
-fn lacks_parent(dictionary: &Dictionary, file: &NamedGroups, group: &Group) -> bool
-    ensures { IsTrue result ↔ LacksParentGroup dictionary.now (contents_of file.now) (group_contents group.now) }
-{
-    match dictionary.parent(group.name.as_slice()) {
-        Some(parent) => !file.has(parent),
-        None => false,
-    }
-}
-
 /// Rule 10c: notes a group whose parent group is not in the file.
 pub(crate) fn note_lacking_parent(
     dictionary: &Dictionary,
@@ -60,10 +50,20 @@ pub(crate) fn note_lacking_parent(
     ensures { OnOk result (Adds (AtGroup Rule10c (LacksParentAmong dictionary.now file.now) group.now)
         findings.old findings.new) }
 {
-    if lacks_parent(dictionary, file, group) {
+    if lacks_parent_group(dictionary, file, group) {
         findings.note(group.line, Code::Rule10c, group.name.as_slice())?;
     }
     Ok(())
+}
+
+/// Whether the group has a parent group that is not in the file.
+fn lacks_parent_group(dictionary: &Dictionary, file: &NamedGroups, group: &Group) -> bool
+    ensures { IsTrue result ↔ LacksParentGroup dictionary.now (contents_of file.now) (group_contents group.now) }
+{
+    match dictionary.parent(group.name.as_slice()) {
+        Some(parent) => !file.has(parent),
+        None => false,
+    }
 }
 
 /// Rules 13, 14, 15 and 17: notes that a group which each file has is absent.

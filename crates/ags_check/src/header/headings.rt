@@ -31,25 +31,6 @@ pub(crate) fn note_unknown(
     Ok(())
 }
 
-/// Rules 10a and 10b: notes the listed headings that are not in the row.
-fn note_absent(
-    listed: &[&[u8]],
-    row: &Places,
-    line: u32,
-    code: Code,
-    findings: &mut NotedFindings,
-) -> Result<(), AllocError>
-    ensures { OnOk result (Adds (AtAbsent line code (map (λ name. name.now) listed.now) row.now)
-        findings.old findings.new) }
-{
-    for heading in listed {
-        if row.find(heading).is_none() {
-            findings.note(line, code, heading)?;
-        }
-    }
-    Ok(())
-}
-
 /// Rule 10a: notes the KEY headings of the group that are not in the row.
 pub(crate) fn note_absent_keys(
     dictionary: &Dictionary,
@@ -80,25 +61,23 @@ pub(crate) fn note_absent_required(
     note_absent(required.as_slice(), row, line, Code::Rule10b, findings)
 }
 
-/// The later of two places.
-fn later(one: Option<usize>, other: Option<usize>) -> Option<usize>
-    ensures { result ≡ later one other }
+/// Rules 10a and 10b: notes the listed headings that are not in the row.
+fn note_absent(
+    listed: &[&[u8]],
+    row: &Places,
+    line: u32,
+    code: Code,
+    findings: &mut NotedFindings,
+) -> Result<(), AllocError>
+    ensures { OnOk result (Adds (AtAbsent line code (map (λ name. name.now) listed.now) row.now)
+        findings.old findings.new) }
 {
-    match (one, other) {
-        (Some(one), Some(other)) => Some(one.max(other)),
-        (None, place) => place,
-        (place, None) => place,
+    for heading in listed {
+        if row.find(heading).is_none() {
+            findings.note(line, code, heading)?;
+        }
     }
-}
-
-/// Whether a place is before the latest one so far.
-fn is_before_latest(place: Option<usize>, latest: Option<usize>) -> bool
-    ensures { result ≡ is_before_latest place latest }
-{
-    match (place, latest) {
-        (Some(place), Some(latest)) => place < latest,
-        _ => false,
-    }
+    Ok(())
 }
 
 /// Rule 7: notes the headings before which the row has one that comes later in the group's order.
@@ -123,32 +102,25 @@ pub(crate) fn note_misplaced(
     Ok(())
 }
 
-/// What comes after the front of a text, if the text begins with it.
-fn after_front<'t>(text: &'t [u8], front: &[u8]) -> Option<&'t [u8]>
-    ensures { MatchOption result ((rest : List ℕ) → text.now ≡ front.now ++ rest → ⊥)
-        (λ rest. text.now ≡ front.now ++ rest.now) }
+/// Whether a place is before the latest one so far.
+fn is_before_latest(place: Option<usize>, latest: Option<usize>) -> bool
+    ensures { result ≡ is_before_latest place latest }
 {
-    text.strip_prefix(front)
-}
-
-/// Whether the heading begins with the group's name and a low line.
-fn begins_with_name(heading: &[u8], group: &[u8]) -> bool
-    ensures { IsTrue result ↔ BeginsWithName group.now heading.now }
-{
-    match after_front(heading, group) {
-        Some(rest) => after_front(rest, b"_").is_some(),
-        None => false,
+    match (place, latest) {
+        (Some(place), Some(latest)) => place < latest,
+        _ => false,
     }
 }
 
-/// Whether the heading is user-defined, and neither named for the group nor another group's.
-fn is_misnamed(given: &Dictionary, extended: &Dictionary, group: &[u8], heading: &[u8]) -> bool
-    ensures { IsTrue result ↔ IsMisnamedBy given.now extended.now group.now heading.now }
+/// The later of two places.
+fn later(one: Option<usize>, other: Option<usize>) -> Option<usize>
+    ensures { result ≡ later one other }
 {
-    extended.place_in_order(group, heading).is_some()
-        && given.place_in_order(group, heading).is_none()
-        && !begins_with_name(heading, group)
-        && !extended.elsewhere(group, heading)
+    match (one, other) {
+        (Some(one), Some(other)) => Some(one.max(other)),
+        (None, place) => place,
+        (place, None) => place,
+    }
 }
 
 /// Rule 19b: notes the user-defined headings that are neither named for the group nor another group's.
@@ -169,4 +141,32 @@ pub(crate) fn note_misnamed(
         }
     }
     Ok(())
+}
+
+/// Whether the heading is user-defined, and neither named for the group nor another group's.
+fn is_misnamed(given: &Dictionary, extended: &Dictionary, group: &[u8], heading: &[u8]) -> bool
+    ensures { IsTrue result ↔ IsMisnamedBy given.now extended.now group.now heading.now }
+{
+    extended.place_in_order(group, heading).is_some()
+        && given.place_in_order(group, heading).is_none()
+        && !begins_with_name(heading, group)
+        && !extended.elsewhere(group, heading)
+}
+
+/// Whether the heading begins with the group's name and a low line.
+fn begins_with_name(heading: &[u8], group: &[u8]) -> bool
+    ensures { IsTrue result ↔ BeginsWithName group.now heading.now }
+{
+    match after_front(heading, group) {
+        Some(rest) => after_front(rest, b"_").is_some(),
+        None => false,
+    }
+}
+
+/// What comes after the front of a text, if the text begins with it.
+fn after_front<'t>(text: &'t [u8], front: &[u8]) -> Option<&'t [u8]>
+    ensures { MatchOption result ((rest : List ℕ) → text.now ≡ front.now ++ rest → ⊥)
+        (λ rest. text.now ≡ front.now ++ rest.now) }
+{
+    text.strip_prefix(front)
 }

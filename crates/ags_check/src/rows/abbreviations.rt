@@ -13,19 +13,6 @@ pub(crate) struct Abbreviations<'a> {
     held: BTreeSet<(&'a [u8], &'a [u8])>,
 }
 
-/// Adds a pair.
-fn add_pair<'a>(
-    held: &mut BTreeSet<(&'a [u8], &'a [u8])>,
-    heading: &'a [u8],
-    text: &'a [u8],
-) -> Result<(), AllocError>
-    ensures { OnOk result ((h t : List ℕ) → has_pair held.new h t
-        ≡ (has_pair held.old h t || is_pair h t (heading.now, text.now))) }
-{
-    held.insert((heading, text))?;
-    Ok(())
-}
-
 impl<'a> Abbreviations<'a> {
     /// These pairs.
     pub(crate) fn of(alloc: Global, pairs: &[(&'a [u8], &'a [u8])]) -> Result<Self, AllocError>
@@ -59,4 +46,17 @@ impl<'a> Abbreviations<'a> {
         }
         !self.has(heading, rest)
     }
+}
+
+/// Adds a pair.
+fn add_pair<'a>(
+    held: &mut BTreeSet<(&'a [u8], &'a [u8])>,
+    heading: &'a [u8],
+    text: &'a [u8],
+) -> Result<(), AllocError>
+    ensures { OnOk result ((h t : List ℕ) → has_pair held.new h t
+        ≡ (has_pair held.old h t || is_pair h t (heading.now, text.now))) }
+{
+    held.insert((heading, text))?;
+    Ok(())
 }

@@ -18,11 +18,22 @@ pub(crate) struct Column<'a> {
     pub(crate) cell_type: CellType,
 }
 
-/// Whether the entries have this type.
-pub(crate) fn is_of_type(column: &Column, code: &[u8]) -> bool
-    ensures { IsTrue result ↔ (column.now.code.now ≡ code.now) }
+/// What the group says of each of these headings.
+pub(crate) fn columns<'a>(
+    alloc: Global,
+    group: &'a Group<'_>,
+    places: &Places<'_>,
+    headings: &[&'a [u8]],
+) -> Result<Vec<Column<'a>>, AllocError>
+    requires { places.now ≡ group.now.headings }
+    ensures { IfOk result (λ columns.
+        AreColumns (group_contents group.now) (map (λ heading. heading.now) headings.now) columns.items) }
 {
-    column.code == code
+    let mut columns = Vec::new(alloc);
+    for heading in headings {
+        columns.push(heading_column(group, places, heading))?;
+    }
+    Ok(columns)
 }
 
 /// What the group says of a heading.
@@ -42,20 +53,9 @@ fn heading_column<'a>(group: &'a Group<'_>, places: &Places<'_>, heading: &'a [u
     }
 }
 
-/// What the group says of each of these headings.
-pub(crate) fn columns<'a>(
-    alloc: Global,
-    group: &'a Group<'_>,
-    places: &Places<'_>,
-    headings: &[&'a [u8]],
-) -> Result<Vec<Column<'a>>, AllocError>
-    requires { places.now ≡ group.now.headings }
-    ensures { IfOk result (λ columns.
-        AreColumns (group_contents group.now) (map (λ heading. heading.now) headings.now) columns.items) }
+/// Whether the entries have this type.
+pub(crate) fn is_of_type(column: &Column, code: &[u8]) -> bool
+    ensures { IsTrue result ↔ (column.now.code.now ≡ code.now) }
 {
-    let mut columns = Vec::new(alloc);
-    for heading in headings {
-        columns.push(heading_column(group, places, heading))?;
-    }
-    Ok(columns)
+    column.code == code
 }

@@ -41,36 +41,6 @@ impl<'a> Model for Outline<'a> {
         o.has_keys o.has_parent o.is_data };
 }
 
-/// What the group says of its REQUIRED headings.
-fn required_columns<'a>(
-    alloc: Global,
-    dictionary: &'a Dictionary,
-    group: &'a Group<'_>,
-    places: &Places<'_>,
-) -> Result<Vec<Column<'a>>, AllocError>
-    requires { places.now ≡ group.now.headings }
-    ensures { IfOk result (λ columns.
-        AreColumns (group_contents group.now) (required_of dictionary.now group.now.name) columns.items) }
-{
-    let required = dictionary.required(group.name.as_slice())?;
-    columns(alloc, group, places, required.as_slice())
-}
-
-/// Whether the group has KEY headings.
-fn has_keys(dictionary: &Dictionary, name: &[u8]) -> Result<bool, AllocError>
-    ensures { IfOk result (λ has. IsTrue has ↔ (keys_of dictionary.now name.now ≢ [])) }
-{
-    let keys = dictionary.keys(name)?;
-    Ok(!keys.is_empty())
-}
-
-/// Whether the FILE_FSET is not null and there is no file.
-fn is_without_file(file_set: &[u8], has_file: bool) -> bool
-    ensures { IsTrue result ↔ (file_set.now ≢ []) × (has_file ≡ false) }
-{
-    !file_set.is_empty() && !has_file
-}
-
 impl<'a> Outline<'a> {
     /// What is said of this group's rows, where its headings are at these places.
     fn placed(
@@ -161,4 +131,34 @@ impl<'a> Outline<'a> {
             && self.group.name.as_slice() != b"FILE".as_slice()
             && is_without_file(cell_at(cells, self.file_set), has_file)
     }
+}
+
+/// Whether the group has KEY headings.
+fn has_keys(dictionary: &Dictionary, name: &[u8]) -> Result<bool, AllocError>
+    ensures { IfOk result (λ has. IsTrue has ↔ (keys_of dictionary.now name.now ≢ [])) }
+{
+    let keys = dictionary.keys(name)?;
+    Ok(!keys.is_empty())
+}
+
+/// What the group says of its REQUIRED headings.
+fn required_columns<'a>(
+    alloc: Global,
+    dictionary: &'a Dictionary,
+    group: &'a Group<'_>,
+    places: &Places<'_>,
+) -> Result<Vec<Column<'a>>, AllocError>
+    requires { places.now ≡ group.now.headings }
+    ensures { IfOk result (λ columns.
+        AreColumns (group_contents group.now) (required_of dictionary.now group.now.name) columns.items) }
+{
+    let required = dictionary.required(group.name.as_slice())?;
+    columns(alloc, group, places, required.as_slice())
+}
+
+/// Whether the FILE_FSET is not null and there is no file.
+fn is_without_file(file_set: &[u8], has_file: bool) -> bool
+    ensures { IsTrue result ↔ (file_set.now ≢ []) × (has_file ≡ false) }
+{
+    !file_set.is_empty() && !has_file
 }

@@ -1,6 +1,6 @@
 use crate::tests::{Read, scan};
 use ags_rows::vectors::{FILE_A, FILE_B, FILE_C, MINI};
-use ags_rows::{Descriptor, Group, Row, Scan, cells, quote, write_group, write_line, write_row};
+use ags_rows::{Descriptor, Group, Row, Scan, cells, write_field, write_group, write_line, write_row};
 use ags_text::{Cell, Sequence};
 use std::alloc::{AllocError, Global};
 use std::test::Fail;
@@ -285,7 +285,7 @@ fn push_fields(text: &mut Vec<u8>, alloc: Global, line: &[u8]) -> Result<(), All
 
 /// Appends a field, a row and a line, one after the other.
 fn push_spelled(text: &mut Vec<u8>, alloc: Global) -> Result<(), AllocError> {
-    quote(text, b"a\"b")?;
+    write_field(text, b"a\"b")?;
     push_fields(text, alloc, b"\"a\" , \"b\"")?;
     write_line(
         text,
@@ -313,7 +313,7 @@ const BOREHOLE: &str = r#""BH1","a first borehole on the north bank","FINAL""#;
 /// Whether a field is written, or nothing.
 fn is_field_or_nothing(alloc: Global) -> bool {
     match Vec::from_slice(alloc, BEFORE) {
-        Ok(mut text) => quote(&mut text, NOTE).is_ok() || text.as_slice() == BEFORE,
+        Ok(mut text) => write_field(&mut text, NOTE).is_ok() || text.as_slice() == BEFORE,
         Err(_error) => true,
     }
 }

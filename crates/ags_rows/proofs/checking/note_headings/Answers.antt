@@ -3,9 +3,9 @@ use Rattle.std.specs.Prelude.{◌⊎◌, ◌↔◌}
 use Rattle.ags_rows.specs.declared.code.Code.TheVariants.{Rule19a, P2}
 use Rattle.ags_text.specs.Names.{is_heading_name}
 use Rattle.ags_rows.specs.Collecting.{At, Adds, Among, OneOf}
-use Rattle.ags_rows.specs.Parsing.{StandsInName, IsMet, met_rules}
+use Rattle.ags_rows.specs.Parsing.{IsMet, met_rules}
 use Rattle.ags_rows.proofs.Collecting.{among_more, among_all}
-use Rattle.ags_rows.proofs.Repeats.{repeat_more, heading_same}
+use Rattle.ags_rows.proofs.Repeats.{StandsInName, repeat_more, heading_same}
 use Rattle.ags_rows.proofs.checking.note_headings.Goals as goal
 
 pub loop-heading-preserved : goal.loop-heading-preserved

@@ -4,7 +4,8 @@ use Rattle.ags_rows.specs.declared.code.Code.TheVariants.{Rule19a, P2}
 use Rattle.ags_text.specs.Names.{is_heading_name}
 use Rattle.ags_rows.specs.Collecting.{Adds, AmongBefore}
 use Rattle.ags_rows.specs.Stands.{IsRepeat}
-use Rattle.ags_rows.specs.Parsing.{StandsInName, IsMet}
+use Rattle.ags_rows.specs.Parsing.{IsMet}
+use Rattle.ags_rows.proofs.Repeats.{StandsInName}
 use Rattle.ags_rows.proofs.checking.note_headings.Given as goal
 
 abbrev pub invariant-loop-heading : goal.invariant-loop-heading

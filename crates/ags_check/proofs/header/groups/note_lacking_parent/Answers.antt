@@ -3,7 +3,7 @@ use Rattle.ags_rows.proofs.Lemmas.{adds_found, adds_unmet}
 use Rattle.ags_check.proofs.header.groups.note_lacking_parent.Goals as goal
 
 pub returns-in_ok-note : goal.returns-in_ok-note
-returns-in_ok-note c = adds_found (c.lacks_parent.ensures.0 c.if-lacks_parent.true) (cc (c.as_slice.ensures, c.in_ok-note.ensures.noted))
+returns-in_ok-note c = adds_found (c.lacks_parent_group.ensures.0 c.if-lacks_parent_group.true) (cc (c.as_slice.ensures, c.in_ok-note.ensures.noted))
 
-pub returns-else-lacks_parent : goal.returns-else-lacks_parent
-returns-else-lacks_parent c = adds_unmet c.if-lacks_parent.false c.lacks_parent.ensures.1 refl
+pub returns-else-lacks_parent_group : goal.returns-else-lacks_parent_group
+returns-else-lacks_parent_group c = adds_unmet c.if-lacks_parent_group.false c.lacks_parent_group.ensures.1 refl

@@ -3,11 +3,11 @@ use Rattle.std.specs.Borrow.{Bor}
 use Rattle.ags_rows.specs.declared.code.Code.TheVariants.{Rule7}
 use Rattle.ags_rows.specs.Contents.{place_in}
 use Rattle.ags_dict.specs.Entries.{order_of}
-use Rattle.ags_check.specs.HeaderSteps.{IsLatest, IsOvertaken, is_before_latest, later}
+use Rattle.ags_check.specs.HeaderSteps.{IsOvertaken, is_before_latest, later}
 use Rattle.ags_rows.specs.Collecting.{Adds}
 use Rattle.ags_rows.proofs.Lemmas.{among_none, adds_found, adds_unmet}
 use Rattle.ags_check.proofs.Naming.{texts, NotesName, name_at, names_more, names_all}
-use Rattle.ags_check.proofs.Ranks.{latest_none, latest_more, before_overtaken, overtaken_before}
+use Rattle.ags_check.proofs.Ranks.{IsLatest, latest_none, latest_more, before_overtaken, overtaken_before}
 use Rattle.ags_check.proofs.header.headings.note_misplaced.Goals as goal
 use Rattle.ags_check.proofs.header.headings.note_misplaced.Goals.{then-is_before_latest+in_ok-note, else-is_before_latest}
 

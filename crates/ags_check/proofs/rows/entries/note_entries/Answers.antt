@@ -4,10 +4,9 @@ use Rattle.std.specs.Prelude.{codes}
 use Rattle.ags_rows.specs.Collecting.{Adds, Notes}
 use Rattle.ags_rows.specs.Contents.{group_contents, fields_of}
 use Rattle.ags_rows.proofs.Lemmas.{adds_found, adds_unmet}
-use Rattle.ags_check.specs.Columns.{column_text}
 use Rattle.ags_cells.specs.Fits.{FitsTypeCode}
 use Rattle.ags_check.specs.RowRules.{IsUnlistedUnit, IsUnlistedType, IsUnlistedAbbreviation}
-use Rattle.ags_check.proofs.EntryNotes.{own_columns, entry_noted, entry_rules_in, entries_more, columns_all}
+use Rattle.ags_check.proofs.EntryNotes.{column_text, own_columns, entry_noted, entry_rules_in, entries_more, columns_all}
 use Rattle.ags_check.proofs.rows.entries.note_entries.Goals as goal
 use Rattle.ags_check.proofs.rows.entries.note_entries.Goals.{then-is_unfit+in_ok-note, else-is_unfit, then-is_unlisted_unit+in_ok-note-2, else-is_unlisted_unit, then-is_unlisted_abbreviation+in_ok-note-3, else-is_unlisted_abbreviation, then-is_unlisted_type+in_ok-note-4, else-is_unlisted_type}
 

@@ -5,9 +5,8 @@ use Rattle.ags_rows.specs.Contents.{group_contents, fields_of}
 use Rattle.ags_rows.proofs.Lemmas.{adds_found, adds_unmet, one_rule}
 use Rattle.ags_dict.specs.Entries.{required_of}
 use Rattle.ags_links.specs.DataRows.{entry_of}
-use Rattle.ags_check.specs.Columns.{column_text}
 use Rattle.ags_check.specs.RowRules.{headed_row}
-use Rattle.ags_check.proofs.EntryNotes.{required_columns, columns_more, columns_all}
+use Rattle.ags_check.proofs.EntryNotes.{column_text, required_columns, columns_more, columns_all}
 use Rattle.ags_check.proofs.LinkNotes.{lacking_means}
 use Rattle.ags_check.proofs.rows.entries.note_lacking.Goals as goal
 use Rattle.ags_check.proofs.rows.entries.note_lacking.Goals.{then-is_empty+in_ok-note, else-is_empty}

@@ -5,9 +5,9 @@ use Rattle.ags_rows.specs.Collecting.{Adds, Notes}
 use Rattle.ags_rows.specs.Contents.{group_contents, fields_of}
 use Rattle.ags_text.specs.Names.{is_definition}
 use Rattle.ags_rows.proofs.Lemmas.{adds_found, adds_unmet, one_rule}
-use Rattle.ags_check.specs.Columns.{Outlined, column_text}
+use Rattle.ags_check.specs.Columns.{Outlined}
 use Rattle.ags_check.specs.RowRules.{headed_row, IsBrokenLink}
-use Rattle.ags_check.proofs.EntryNotes.{own_columns, columns_more, columns_all}
+use Rattle.ags_check.proofs.EntryNotes.{column_text, own_columns, columns_more, columns_all}
 use Rattle.ags_check.proofs.LinkNotes.{link_at, no_links}
 use Rattle.ags_check.proofs.rows.links.note_links.Goals as goal
 use Rattle.ags_check.proofs.rows.links.note_links.Goals.{then-branch+in_ok-note, else-branch}

@@ -12,7 +12,7 @@ loop-row-init c = no_steps c.new-steps.result.items c.args.index.now c.new-steps
 pub loop-row-preserved : goal.loop-row-preserved
 loop-row-preserved c =
     steps_more c.args.index.now c.loop-row.row c.deref.result.now c.loop-row.steps.items c.add_steps.new.steps.items c.loop-row.invariant
-    (subst (λ ts. ListsRows ts (StepAt c.args.index.now c.loop-row.row)) (sym c.deref.ensures.value) c.in_ok-targets.ensures) c.in_ok-add_steps.ensures
+    (subst (λ ts. ListsRows ts (StepAt c.args.index.now c.loop-row.row)) (sym c.deref.ensures.value) c.in_ok-rows_stepped_to.ensures) c.in_ok-add_steps.ensures
 
 pub invariant_of-result : goal.invariant_of-result
 invariant_of-result c =

@@ -1,5 +1,5 @@
 use Rattle.ags_links.proofs.Stepping.{all_steps}
-use Rattle.ags_links.proofs.steps.targets.Goals as goal
+use Rattle.ags_links.proofs.steps.rows_stepped_to.Goals as goal
 
 pub returns : goal.returns
 returns c =
