@@ -129,7 +129,7 @@ pub enum Play {
     Steps(&'static [Step]),
     /// The same under the policy with lines more.
     Under(Added, &'static [Step]),
-    /// Six runs are asked, where withdrawals are permitted and memory may be refused once.
+    /// Six runs are asked, where withdrawals are permitted; an error where memory ran out exactly once.
     Runs,
     /// Five requests are asked, each until it is answered otherwise than out of memory; withdrawals are permitted.
     Again,

@@ -109,8 +109,7 @@ enum Play<'a> {
     Writes(&'a [u8], usize),
 }
 
-/// Whether a desk that begins answers as it should what is asked; none where memory ran out for exactly one deposit or
-/// list, and each other answer is as it should be.
+/// Whether a desk that begins answers as it should what is asked; none where memory ran out exactly once instead.
 fn is_played(
     alloc: Global,
     desk: &mut Desk<PlainKeep>,
@@ -234,7 +233,7 @@ fn deposits_thrice(
     Some(refused)
 }
 
-/// Whether memory ran out for none; none where it ran out for exactly one.
+/// Whether memory never ran out; none where it ran out exactly once.
 fn are_as_ever(ran_out: Option<u32>) -> Option<bool> {
     match ran_out {
         Some(1) => None,
@@ -243,7 +242,7 @@ fn are_as_ever(ran_out: Option<u32>) -> Option<bool> {
 }
 
 /// Whether memory ran out exactly once where `conformance/refused_tests` sets OUT_OF_MEMORY, for an answer or before
-/// anything was asked, and else never. Each other answer is as ever. To read the variable takes no memory.
+/// anything was asked, and else never. To read the variable takes no memory.
 fn runs_out_as_set(rt: &HostRuntime, played: Option<bool>) -> bool {
     let set = rt.var("OUT_OF_MEMORY", &mut [0u8; 8]).is_ok();
     match played {
@@ -252,7 +251,7 @@ fn runs_out_as_set(rt: &HostRuntime, played: Option<bool>) -> bool {
     }
 }
 
-/// Three equal deposits, with memory and with one allocation that fails.
+/// Three equal deposits: with memory, and where one allocation fails.
 #[test]
 fn memory_is_refused_once(rt: HostRuntime) {
     assert!(rt; runs_out_as_set(&rt, plays(rt.alloc(), Play::Deposits)));

@@ -383,8 +383,7 @@ fn two_requests<'a>(
     ]
 }
 
-/// Whether each answer is that of the reference model; an error where exactly one answer or run is out of memory
-/// instead.
+/// Whether each answer is that of the reference model; an error where memory ran out for exactly one answer or run.
 pub fn runs_out_once<K: Keep>(
     alloc: Global,
     desk: &mut Desk<K>,
