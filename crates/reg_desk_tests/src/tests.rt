@@ -21,7 +21,7 @@ use bodies::{LENGTHS, bytes_of};
 use examples::{CHANGED, EXAMPLES, LONG, MOST};
 use laws::answers_after_deposit;
 use memory::again::is_answered_again;
-use memory::is_refused_once;
+use memory::runs_out_once;
 use policies::{Added, WITHDRAWALS, policy_with};
 use refusing::Refusing;
 use reg_desk::Desk;
@@ -129,7 +129,7 @@ pub enum Play {
     Steps(&'static [Step]),
     /// The same under the policy with lines more.
     Under(Added, &'static [Step]),
-    /// Six runs are asked, where withdrawals are permitted and memory may be refused once.
+    /// Six runs are asked, where withdrawals are permitted; an error where memory ran out exactly once.
     Runs,
     /// Five requests are asked, each until it is answered otherwise than out of memory; withdrawals are permitted.
     Again,
@@ -196,7 +196,7 @@ fn answers<K: Keep>(
 ) -> Result<bool, AllocError> {
     match play {
         Play::Steps(steps) | Play::Under(_, steps) => hold(alloc, desk, callers, project, steps),
-        Play::Runs => Ok(is_refused_once(alloc, desk, callers, project)),
+        Play::Runs => runs_out_once(alloc, desk, callers, project),
         Play::Again => Ok(is_answered_again(alloc, desk, callers, project)),
         Play::AfterDeposit(body) => answers_after_deposit(alloc, desk, callers, project, body),
     }

@@ -16,9 +16,9 @@ use reg_store::{Keep, PlainKeep};
 use replies::replies_on;
 use slow::{reads_deposit, writes_twice};
 use std::alloc::{AllocError, Global};
-use std::env::VarError;
+use std::env::Env;
+use std::io;
 use std::io::{ErrorKind, Read, Write};
-use std::{env, io};
 
 /// An empty desk over memory that takes so many deposits, under this policy and dictionary; none where memory is
 /// refused, or the dictionary is longer than what can be read.
@@ -95,10 +95,10 @@ fn answers(
 enum Play<'a> {
     /// A connection without a byte.
     Silence,
-    /// Three equal deposits, and how many allocations fail.
-    Deposits(u32),
-    /// Two lists of two equal deposits, and how many allocations fail.
-    Lists(u32),
+    /// Three equal deposits.
+    Deposits,
+    /// Two lists of two equal deposits.
+    Lists,
     /// A list of a deposit, nothing, and the same deposit.
     Connections,
     /// Deposits over readers that fail.
@@ -109,31 +109,33 @@ enum Play<'a> {
     Writes(&'a [u8], usize),
 }
 
-/// Whether a desk that begins answers as it should what is asked.
+/// Whether a desk that begins answers as it should what is asked; none where memory ran out exactly once instead.
 fn is_played(
     alloc: Global,
     desk: &mut Desk<PlainKeep>,
     callers: &Callers,
     day: Day,
     play: Play<'_>,
-) -> bool {
+) -> Option<bool> {
     match play {
-        Play::Silence => answers(alloc, desk, callers, day, b"", 0, b""),
-        Play::Deposits(refused) => are_at_most(deposits_thrice(alloc, desk, callers, day), refused),
-        Play::Lists(refused) => are_at_most(lists_twice(alloc, desk, callers, day), refused),
-        Play::Connections => serves_one_after_the_other(alloc, desk, callers, day),
-        Play::Reads => reads_deposit(alloc, desk, callers, day),
+        Play::Silence => Some(answers(alloc, desk, callers, day, b"", 0, b"")),
+        Play::Deposits => are_as_ever(deposits_thrice(alloc, desk, callers, day)),
+        Play::Lists => are_as_ever(lists_twice(alloc, desk, callers, day)),
+        Play::Connections => Some(serves_one_after_the_other(alloc, desk, callers, day)),
+        Play::Reads => Some(reads_deposit(alloc, desk, callers, day)),
         Play::Head(head, status, length, body) => {
-            replies_on(alloc, desk, callers, day, head, [status, length, body]).unwrap_or(false)
+            replies_on(alloc, desk, callers, day, head, [status, length, body]).ok()
         }
-        Play::Writes(request, calls) => writes_twice(alloc, desk, callers, day, request, calls),
+        Play::Writes(request, calls) => {
+            Some(writes_twice(alloc, desk, callers, day, request, calls))
+        }
     }
 }
 
-/// The same at a desk under the small dictionary that takes one deposit; none where memory is refused before.
+/// The same at a desk under the small dictionary that takes one deposit; none also where memory is refused before.
 fn plays_for(alloc: Global, callers: &Callers, day: Day, play: Play<'_>) -> Option<bool> {
     match desk_under(alloc, POLICY, MINI, 1) {
-        Some(mut desk) => Some(is_played(alloc, &mut desk, callers, day, play)),
+        Some(mut desk) => is_played(alloc, &mut desk, callers, day, play),
         None => None,
     }
 }
@@ -231,32 +233,28 @@ fn deposits_thrice(
     Some(refused)
 }
 
-/// Whether no more answers are 503 than allocations failed: none with memory. The code can do without some
-/// allocations.
-fn are_at_most(counted: Option<u32>, refused: u32) -> bool {
-    match counted {
-        Some(count) => count <= refused,
-        None => false,
+/// Whether memory never ran out; none where it ran out exactly once.
+fn are_as_ever(ran_out: Option<u32>) -> Option<bool> {
+    match ran_out {
+        Some(1) => None,
+        other => Some(other == Some(0)),
     }
 }
 
-/// How many allocations fail: one where `conformance/refused_tests` makes it fail, else none. None where the one that
-/// fails is in this function.
-fn allocations_refused(rt: &HostRuntime) -> Option<u32> {
-    match env::var(rt, "REFUSED") {
-        Ok(number) if number.as_str() != "0" => Some(1),
-        Ok(_) | Err(VarError::NotPresent) => Some(0),
-        Err(_) => None,
+/// Whether memory ran out exactly once where `conformance/refused_tests` sets OUT_OF_MEMORY, for an answer or before
+/// anything was asked, and else never. To read the variable takes no memory.
+fn runs_out_as_set(rt: &HostRuntime, played: Option<bool>) -> bool {
+    let set = rt.var("OUT_OF_MEMORY", &mut [0u8; 8]).is_ok();
+    match played {
+        Some(right) => right && !set,
+        None => set,
     }
 }
 
-/// With memory, and where `conformance/refused_tests` makes one allocation fail: of three equal deposits one at most is
-/// then answered 503, and each other as ever. Where memory is refused before, nothing is asked.
+/// Three equal deposits: with memory, and where one allocation fails.
 #[test]
 fn memory_is_refused_once(rt: HostRuntime) {
-    if let Some(refused) = allocations_refused(&rt) {
-        assert!(rt; plays(rt.alloc(), Play::Deposits(refused)).unwrap_or(true));
-    }
+    assert!(rt; runs_out_as_set(&rt, plays(rt.alloc(), Play::Deposits)));
 }
 
 /// Takes one of two texts, and that in one write.
@@ -341,14 +339,10 @@ fn lists_twice(
     Some(first.saturating_add(second))
 }
 
-/// With memory, and where `conformance/refused_tests` makes one allocation fail: two equal deposits are served in a
-/// list, twice. Memory then runs out once, for the list whole or for one of the four answers, and each other answer is
-/// as ever.
+/// The same where two equal deposits are served in a list, twice: memory runs out for a list whole or for one answer.
 #[test]
 fn memory_is_refused_once_in_a_list(rt: HostRuntime) {
-    if let Some(refused) = allocations_refused(&rt) {
-        assert!(rt; plays(rt.alloc(), Play::Lists(refused)).unwrap_or(true));
-    }
+    assert!(rt; runs_out_as_set(&rt, plays(rt.alloc(), Play::Lists)));
 }
 
 /// Whether these are three answers: the first and the last have status 200, and the second 0.

@@ -1,5 +1,5 @@
-//! Memory is refused to one allocation, by `conformance/refused_tests`: the answer is then out of memory, once; the
-//! same call with memory answers what it should.
+//! Memory is refused to one allocation, by `conformance/refused_tests`: exactly one answer is then out of memory, or
+//! none where the code can do without that allocation; each other answer is what it should be.
 
 ghost use Rattle.std.specs.Prelude.{◌≡◌};
 
@@ -23,6 +23,7 @@ use reg_policy::{
 };
 use reg_store::Keep;
 use std::alloc::{AllocError, Global};
+use std::env::Env;
 use std::process::Abort;
 
 /// Calls of the crates below.
@@ -244,7 +245,13 @@ fn refused_of(alloc: Global, rt: &impl Abort) -> u32 {
     refused
 }
 
-/// Each call is made three times, and memory refused to one of them at most.
+/// Whether `conformance/refused_tests` sets OUT_OF_MEMORY: memory has to run out exactly once, and else never. To read
+/// the variable takes no memory.
+fn is_set(rt: &impl Env) -> bool {
+    rt.var("OUT_OF_MEMORY", &mut [0u8; 8]).is_ok()
+}
+
+/// Each call is made three times.
 #[test]
 fn calls(rt: HostRuntime) {
     let alloc = rt.alloc();
@@ -252,7 +259,7 @@ fn calls(rt: HostRuntime) {
     for _ in 0..3 {
         refused = refused.saturating_add(refused_of(alloc, &rt));
     }
-    assert!(rt; refused <= 1);
+    assert!(rt; refused == u32::from(is_set(&rt)));
 }
 
 /// Whether it is the extract of the first file, where that is held, and else that the deposit is unknown.
@@ -376,30 +383,42 @@ fn two_requests<'a>(
     ]
 }
 
-/// Whether memory is refused to one answer or run at most, and each other is that of the reference model.
-pub fn is_refused_once<K: Keep>(
+/// Whether each answer is that of the reference model; an error where memory ran out for exactly one answer or run.
+pub fn runs_out_once<K: Keep>(
     alloc: Global,
     desk: &mut Desk<K>,
     callers: &Callers,
     project: &Name,
-) -> bool {
+) -> Result<bool, AllocError> {
     match two_of(callers, b"t-delta", b"t-echo") {
         Some((delta, echo, day)) => {
             let asked = asks_thrice(alloc, desk, &three_of(delta, echo, project, day));
             let requests = two_requests(delta, echo, project, day);
-            asked.saturating_add(withdraws_thrice(alloc, desk, &requests)) <= 1
+            let faults = asked.saturating_add(withdraws_thrice(alloc, desk, &requests));
+            if faults == 0 {
+                Ok(true)
+            } else {
+                refused_for(faults == 1)
+            }
         }
-        None => false,
+        None => Ok(false),
     }
 }
 
-/// Memory is refused to one answer or run at most. Where it is refused before, nothing is asked.
+/// Whether memory runs out as the variable says, for an answer, for a run, or before anything was asked.
+fn runs_out_as_set(rt: &impl Env, played: Result<bool, AllocError>) -> bool {
+    match played {
+        Ok(right) => right && !is_set(rt),
+        Err(_) => is_set(rt),
+    }
+}
+
 #[test]
 fn runs_in_memory(rt: HostRuntime) {
-    assert!(rt; plays(rt.alloc(), Over::Memory, MOST, Play::Runs).unwrap_or(true));
+    assert!(rt; runs_out_as_set(&rt, plays(rt.alloc(), Over::Memory, MOST, Play::Runs)));
 }
 
 #[test]
 fn runs_in_tables(rt: HostRuntime) {
-    assert!(rt; plays(rt.alloc(), Over::Tables, MOST, Play::Runs).unwrap_or(true));
+    assert!(rt; runs_out_as_set(&rt, plays(rt.alloc(), Over::Tables, MOST, Play::Runs)));
 }
