@@ -395,7 +395,11 @@ pub fn runs_out_once<K: Keep>(
             let asked = asks_thrice(alloc, desk, &three_of(delta, echo, project, day));
             let requests = two_requests(delta, echo, project, day);
             let faults = asked.saturating_add(withdraws_thrice(alloc, desk, &requests));
-            if faults == 0 { Ok(true) } else { refused_for(faults == 1) }
+            if faults == 0 {
+                Ok(true)
+            } else {
+                refused_for(faults == 1)
+            }
         }
         None => Ok(false),
     }
