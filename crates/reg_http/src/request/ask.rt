@@ -110,14 +110,14 @@ fn body_length(kind: Kind, parts: &Parts<'_>) -> Result<usize, Refusal>
     if !kind.has_body() {
         return Ok(0);
     }
-    length_by(
+    length_in(
         values(parts, b"transfer-encoding"),
         values(parts, b"content-length"),
     )
 }
 
 /// The length by the fields Transfer-Encoding and Content-Length.
-fn length_by(codings: Values<'_>, lengths: Values<'_>) -> Result<usize, Refusal>
+fn length_in(codings: Values<'_>, lengths: Values<'_>) -> Result<usize, Refusal>
     ensures value { result ≡ length_in (few_seen codings.entry) (few_seen lengths.entry) }
     ensures limit { IfOk result (λ n. n ≤ LIMIT) }
 {
