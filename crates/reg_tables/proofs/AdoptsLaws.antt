@@ -22,20 +22,20 @@ use Rattle.reg_tables.specs.Formats.{StartsWithMeta}
 use Rattle.reg_tables.proofs.Texts.{select_all_numbers, select_deposit, select_meta}
 use Rattle.reg_tables.proofs.MeaningLaws.{all_numbers, all_numbers_read, by_number, deposit_read, all_meta}
 use Rattle.reg_tables.proofs.MeaningLaws.{all_meta_read}
-use Rattle.reg_tables.specs.Rows.{columns_5, deposit_table, given_deposit, columns_3, rows_under}
-use Rattle.reg_tables.specs.Register.{deposit_rows, has_number}
+use Rattle.reg_tables.specs.Rows.{columns_5, deposit_table, given_deposit, columns_3, rows_under, first_column, has_number}
+use Rattle.reg_tables.specs.Register.{deposit_rows}
 use Rattle.reg_tables.specs.Pushes.{equal_at, apart_at}
 use Rattle.reg_tables.proofs.AnswersLaws.{answers, shows_all, shows_rows}
 use Rattle.reg_tables.proofs.ReadsLaws.{equal_order, of_number}
-use Rattle.reg_tables.specs.Adopts.{id_of, number_rows}
+use Rattle.reg_tables.specs.Adopts.{number_rows}
 
 -- ---- what the queries show
 
 pub shows_numbers : (old new : State) (rows : List Row) → HasTables old.now.schema
-    → Shown select_all_numbers [] old new rows → IsPermutation rows (map id_of (deposit_table old.now.trees))
+    → Shown select_all_numbers [] old new rows → IsPermutation rows (map first_column (deposit_table old.now.trees))
 shows_numbers old new rows has h =
-    subst (IsPermutation rows) (sym (map-map id_of columns_5 (old.now.trees 2))) (shows_all (answers select_all_numbers 2 all_numbers _
-    old new [] rows (all_numbers_read old.now.schema has) refl h) (λ r. id_of (columns_5 r)) (λ _. refl) (λ _. refl))
+    subst (IsPermutation rows) (sym (map-map first_column columns_5 (old.now.trees 2))) (shows_all (answers select_all_numbers 2 all_numbers _
+    old new [] rows (all_numbers_read old.now.schema has) refl h) (λ r. first_column (columns_5 r)) (λ _. refl) (λ _. refl))
 
 pub shows_meta : (old new : State) (rows : List Row) → StartsWithMeta old.now.schema → Shown select_meta [] old new rows
     → IsPermutation rows (map columns_3 (old.now.trees 0))
@@ -63,12 +63,12 @@ above m n (suc count) low = rw (apart_at n m (λ e. absurd (omega (arith, e))))
     (ap (λ all. (Int (pos n) ∷ []) ∷ all) (above m (n + 1) count (omega arith)))
 
 pub by_numbers : (m : ℕ) (list : List Sent) (table : List Row)
-    → IsPermutation (number_rows m (length list)) (map id_of table)
+    → IsPermutation (number_rows m (length list)) (map first_column table)
     → ((k : ℕ) (d : Sent) → slice_get list k ≡ Some d
     → filter (has_number (m + k)) table ≡ given_deposit (m + k) d ∷ []) → IsPermutation (deposit_rows m list) table
 by_numbers m [] [] ids one = IsPermutation-refl []
 by_numbers m [] (r ∷ table) ids one =
-    absurd (let e : suc (length (map id_of table)) ≡ 0 = length_permutation _ _ ids in omega (arith, e))
+    absurd (let e : suc (length (map first_column table)) ≡ 0 = length_permutation _ _ ids in omega (arith, e))
 by_numbers m (d ∷ list) table ids one =
     let rest = filter (λ c. not (has_number m c)) table in
     let e : m + 0 ≡ m = omega arith in
@@ -79,8 +79,8 @@ by_numbers m (d ∷ list) table ids one =
     let less_ids = IsPermutation-filter (λ c. not (has_number m c)) _ _ ids in
     let left : filter (λ c. not (has_number m c)) (number_rows m (suc (length list)))
     ≡ number_rows (m + 1) (length list) = rw (equal_at m) (above m (m + 1) (length list) (omega arith)) in
-    let right : filter (λ c. not (has_number m c)) (map id_of table) ≡ map id_of rest =
-    filter-map (λ c. not (has_number m c)) id_of table in
+    let right : filter (λ c. not (has_number m c)) (map first_column table) ≡ map first_column rest =
+    filter-map (λ c. not (has_number m c)) first_column table in
     let later = by_numbers (m + 1) list rest (subst₂ IsPermutation left right less_ids)
     (λ k x at.
     let s : m + suc k ≡ (m + 1) + k = omega arith in
@@ -106,14 +106,14 @@ none_above m n zero low = refl
 none_above m n (suc count) low =
     rw (apart_at m n (λ e. absurd (omega (arith, e)))) (none_above (m + 1) n count (omega arith))
 
-empty_map : (rows : List Row) → IsPermutation [] (map id_of rows) → rows ≡ []
+empty_map : (rows : List Row) → IsPermutation [] (map first_column rows) → rows ≡ []
 empty_map [] h = refl
 empty_map (r ∷ rows) h =
-    absurd (let e : suc (length (map id_of rows)) ≡ 0 = length_permutation _ _ h in omega (arith, e))
+    absurd (let e : suc (length (map first_column rows)) ≡ 0 = length_permutation _ _ h in omega (arith, e))
 
-pub outside : (count n : ℕ) (table : List Row) → IsPermutation (number_rows 1 count) (map id_of table) → count < n
+pub outside : (count n : ℕ) (table : List Row) → IsPermutation (number_rows 1 count) (map first_column table) → count < n
     → filter (has_number n) table ≡ []
 outside count n table ids low =
     let kept = IsPermutation-filter (has_number n) _ _ ids in
     empty_map (filter (has_number n) table)
-    (subst₂ IsPermutation (none_above 1 n count (omega arith)) (filter-map (has_number n) id_of table) kept)
+    (subst₂ IsPermutation (none_above 1 n count (omega arith)) (filter-map (has_number n) first_column table) kept)

@@ -18,7 +18,7 @@ use Rattle.ags_dict.specs.Reading.{IsDictionary}
 use Rattle.reg_tables.specs.Tables.{no_schema, first_schema}
 use Rattle.reg_tables.proofs.MeaningLaws.{MakesTable, with_lines}
 use Rattle.reg_tables.specs.Meaning.{with_meta, with_deposits}
-use Rattle.reg_tables.specs.Rows.{columns_3, columns_5, dictionary_row, format_row, mark_column, rows_under}
+use Rattle.reg_tables.specs.Rows.{columns_3, columns_5, dictionary_row, format_row, first_column, rows_under}
 use Rattle.reg_tables.proofs.InsertsLaws.{FillsMeta, meta_rows, same_value, went}
 use Rattle.reg_tables.specs.Register.{tables}
 use Rattle.reg_tables.proofs.StoredText.{text_of_meta}
@@ -95,7 +95,7 @@ new_empty text dictionary db short reads it = record {
       steps = λ k. subst (λ rows. IsPermutation [] (rows_under (k + 1) (map columns_3 rows))) (sym it.steps)
           (IsPermutation-refl []);
     };
-    marks = subst (λ rows. IsPermutation [] (map mark_column rows)) (sym it.marks) (IsPermutation-refl []);
+    marks = subst (λ rows. IsPermutation [] (map first_column rows)) (sym it.marks) (IsPermutation-refl []);
   };
   bytes = text_of_meta 2 text _ it.meta;
 }

@@ -27,12 +27,12 @@ use Rattle.reg_tables.specs.declared.memory.digests.Digests.{Digests}
 use Rattle.reg_store.specs.declared.keep.KeptRow.{KeptRow}
 use Rattle.reg_store.specs.Sent.{Sent, is_repeat}
 use Rattle.reg_store.specs.Fit.{IsFileOf, IsNamed, kept_rows}
-use Rattle.reg_tables.specs.Rows.{columns_3, deposit_table, dictionary_row, format_row, given_deposit}
+use Rattle.reg_tables.specs.Rows.{columns_3, deposit_table, dictionary_row, format_row, given_deposit, first_column, has_number}
 use Rattle.reg_store.specs.Deposit.{sents}
 use Rattle.reg_tables.specs.declared.schema.format.Format.{Format}
 use Rattle.reg_tables.specs.Found.{AreMetaByName}
 use Rattle.reg_tables.specs.Tables.{HasTables, format_number, schema_of}
-use Rattle.reg_tables.specs.Register.{HoldsSent, deposit_rows, has_number, integer_in, meta_columns}
+use Rattle.reg_tables.specs.Register.{HoldsSent, deposit_rows, integer_in, meta_columns}
 use Rattle.reg_tables.specs.RegisterLaws.{rows-length}
 use Rattle.reg_tables.specs.Digests.{AreBelow, HasEqual, HasNoEqual, HoldsDigests, IsFirst, IsNew, is_among, numbers_under, own_digest}
 use Rattle.reg_tables.specs.Heads.{IsDigestedAt, head_of}
@@ -44,7 +44,7 @@ use Rattle.reg_tables.specs.declared.error.AdoptError.TheVariants.{NotRegister, 
 use Rattle.reg_tables.specs.Formats.{IsFormatRow}
 use Rattle.reg_tables.specs.Adoption.{Adopts, CountsDeposits, Examines, HasNoOtherFormat, MetaOf, ReadsMeta}
 use Rattle.reg_tables.proofs.RowsLemmas.{numbers_long}
-use Rattle.reg_tables.specs.Adopts.{id_of, number_rows}
+use Rattle.reg_tables.specs.Adopts.{number_rows}
 use Rattle.reg_tables.specs.Whole.{AreWhole, Counts, HasMeta, HoldsBody, IsWhole, Tests}
 use Rattle.reg_tables.proofs.WholeLaws.{adopts_whole, of_all, whole_at}
 use Rattle.reg_tables.proofs.TablesLemmas.{tables_first}
@@ -66,9 +66,9 @@ tests_both is A B one two = record { yes = λ e. pair (one.yes refl) (two.yes e)
 pub tests_as : (is : Bool) (A B : Type 0) → (A → B) → (B → A) → Tests is A → Tests is B
 tests_as is A B there back test = record { yes = λ e. ∥∥₁_map (test.yes e) there; no = λ e b. test.no e (back b) }
 
-pub counts_by : (db : Database) (rows : List Row) (found : Option ℕ) → IsPermutation rows (map id_of (deposit_table db.trees)) → ((list : List Sent) → IsPermutation (deposit_rows 1 list) (deposit_table db.trees) → rows ≡ number_rows 1 (length list))
+pub counts_by : (db : Database) (rows : List Row) (found : Option ℕ) → IsPermutation rows (map first_column (deposit_table db.trees)) → ((list : List Sent) → IsPermutation (deposit_rows 1 list) (deposit_table db.trees) → rows ≡ number_rows 1 (length list))
     → IfSome found (λ count. count ≤ 999999) → IfSome found (λ count. rows ≡ number_rows 1 count) → (found ≡ None → (count : ℕ) → count ≤ 999999 → rows ≡ number_rows 1 count → ⊥) → Counts db found
-counts_by db rows (Some count) all are few some none = (few, subst (λ r. IsPermutation r (map id_of (deposit_table db.trees))) some all)
+counts_by db rows (Some count) all are few some none = (few, subst (λ r. IsPermutation r (map first_column (deposit_table db.trees))) some all)
 counts_by db rows None all are few some none = λ list low holds. none refl (length list) low (are list holds)
 
 -- a second test, after which the tables are as they were
@@ -237,9 +237,9 @@ finds_whole format db dictionary count schema sound meta counts all = ∥∥₁_
 
 pub finds_none : (format : Format) (db : Database) (dictionary : Entries) (count : ℕ) → Counts db (Some count) → (AreWhole db dictionary count → ⊥) → CountsDeposits format db dictionary None
 finds_none format db dictionary count counts none list r =
-    let ids = IsPermutation-map id_of _ _ r.deposits in
+    let ids = IsPermutation-map first_column _ _ r.deposits in
     let rows = length_permutation _ _ counts.1 ∙ numbers_long 1 count in
-    let listed = length_permutation _ _ ids ∙ length-map (deposit_rows 1 list) id_of ∙ rows-length 1 list in
+    let listed = length_permutation _ _ ids ∙ length-map (deposit_rows 1 list) first_column ∙ rows-length 1 list in
     let same : length list ≡ count = sym listed ∙ rows in
     none (subst (AreWhole db dictionary) same (whole_at {format = format} db dictionary list r))
 

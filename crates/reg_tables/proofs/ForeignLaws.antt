@@ -18,8 +18,7 @@ use Rattle.sqlite_value.proofs.OrderLemmas.{value_cmp_total}
 use Rattle.reg_tables.specs.declared.schema.format.Format.{Format}
 use Rattle.reg_tables.specs.declared.schema.format.Format.TheVariants.{First, Second}
 use Rattle.reg_tables.proofs.ReadsLaws.{equal_order, truth_is}
-use Rattle.reg_tables.specs.Register.{has_number}
-use Rattle.reg_tables.specs.Rows.{columns_5, deposit_table, is_of, rows_under}
+use Rattle.reg_tables.specs.Rows.{columns_5, deposit_table, has_number, rows_under}
 use Rattle.reg_tables.specs.Tables.{schema_of}
 
 -- the row has a row of deposits with its number
@@ -73,14 +72,14 @@ no_parent n v (p ∷ rows) is none = go (no_parent n v rows is) (has_number n (c
     go more false e h = rw (apart_from (column p 1) v n is e) (more h)
 
 -- where each row has its row of deposits, no row is of a number that no deposit has
-pub no_rows : (see : Row → Row) (trees : Trees) (n : ℕ) → ((r : Row) → is_of n (see r) ≡ is_eq (value_cmp (column r 1) (Int (pos n))))
+pub no_rows : (see : Row → Row) (trees : Trees) (n : ℕ) → ((r : Row) → has_number n (see r) ≡ is_eq (value_cmp (column r 1) (Int (pos n))))
     → filter (has_number n) (deposit_table trees) ≡ [] → (rows : List Row) → AllByRecursion (HasDeposit trees) rows
     → rows_under n (map see rows) ≡ []
 no_rows see trees n same none [] keyed = refl
-no_rows see trees n same none (r ∷ rows) keyed = go (is_of n (see r)) refl (no_rows see trees n same none rows keyed.1)
+no_rows see trees n same none (r ∷ rows) keyed = go (has_number n (see r)) refl (no_rows see trees n same none rows keyed.1)
   where
-    go : (b : Bool) → is_of n (see r) ≡ b → rows_under n (map see rows) ≡ []
-        → map (drop 1) (if b then see r ∷ filter (is_of n) (map see rows) else filter (is_of n) (map see rows)) ≡ []
+    go : (b : Bool) → has_number n (see r) ≡ b → rows_under n (map see rows) ≡ []
+        → map (drop 1) (if b then see r ∷ filter (has_number n) (map see rows) else filter (has_number n) (map see rows)) ≡ []
     go true e more =
         let its = sym (same r) ∙ e in
         absurd (let held = rw (not_null (column r 1) n its, no_parent n (column r 1) (trees 2) its none) at keyed.0 in cc)

@@ -32,7 +32,7 @@ use Rattle.reg_tables.proofs.MeaningLaws.{InsertsInto, row_terms, deposit_is, li
 use Rattle.reg_tables.proofs.MeaningLaws.{step_is, mark_terms, mark_is, eight_line_terms, eight_lines_are}
 use Rattle.reg_tables.proofs.MeaningLaws.{eight_step_terms, eight_steps_are, fill_terms, fill_is}
 use Rattle.reg_tables.specs.Rows.{columns_5, columns_3, joined, line_row, line_rows, step_row, step_rows, given_deposit}
-use Rattle.reg_tables.specs.Rows.{dictionary_row, format_row, mark_column, mark_row}
+use Rattle.reg_tables.specs.Rows.{dictionary_row, format_row, first_column, number_row}
 use Rattle.reg_tables.proofs.PutLaws.{cast_int, IsBlind, AreSeen, seen_blind, all_seen}
 use Rattle.reg_tables.specs.Inserts.{AddsTo, AddsDeposit, AddsLines, AddsSteps, AddsMark}
 
@@ -206,14 +206,14 @@ fills_meta old new dictionary =
     (meta_rows 2 dictionary) (meta_taken dictionary) old new
 
 -- the number is that of the row itself
-mark_taken : (n : ℕ) → map mark_column (taken_as withdrawals 2 mark_terms (mark_row n)) ≡ mark_row n ∷ []
+mark_taken : (n : ℕ) → map first_column (taken_as withdrawals 2 mark_terms (number_row n)) ≡ number_row n ∷ []
 mark_taken n = rw (cast_int (pos n)) refl
 
-mark_seen : (n : ℕ) → AreSeen mark_column (taken_as withdrawals 2 mark_terms (mark_row n))
+mark_seen : (n : ℕ) → AreSeen first_column (taken_as withdrawals 2 mark_terms (number_row n))
 mark_seen n = rw (cast_int (pos n)) ((λ rows. refl), tt)
 
 pub puts_mark : (old new : State) (n : ℕ) (count : ℕ) → old.now.schema ≡ register_schema
-    → Executes insert_mark (mark_row n) old new (Ok count) → AddsMark n old.now new.now
+    → Executes insert_mark (number_row n) old new (Ok count) → AddsMark n old.now new.now
 puts_mark old new n =
-    puts 4 withdrawals refl mark_column 2 insert_mark mark_terms mark_is (mark_row n) (λ db. refl) (mark_seen n)
-    (mark_row n ∷ []) (mark_taken n) old new
+    puts 4 withdrawals refl first_column 2 insert_mark mark_terms mark_is (number_row n) (λ db. refl) (mark_seen n)
+    (number_row n ∷ []) (mark_taken n) old new

@@ -8,7 +8,7 @@ use Rattle.std.proofs.lemmas.List.Sorted.{IsPermutation-cons, IsPermutation-to_f
 use Rattle.std.proofs.lemmas.Option.{slice_get-map}
 use Rattle.reg_store.specs.Sent.{Sent}
 use Rattle.reg_store.specs.Deposit.{Deposit, marked, sents, unmarked}
-use Rattle.reg_tables.specs.Rows.{mark_row}
+use Rattle.reg_tables.specs.Rows.{number_row}
 use Rattle.reg_tables.specs.Register.{mark_rows, marks_of}
 
 -- ---- what was sent stays
@@ -77,7 +77,7 @@ marked_none (suc (suc n)) (d ∷ list) none =
 
 push_false : (n : ℕ) (marks : List Bool) → mark_rows n (marks ++ false ∷ []) ≡ mark_rows n marks
 push_false n [] = refl
-push_false n (true ∷ marks) = ap (λ more. mark_row n ∷ more) (push_false (n + 1) marks)
+push_false n (true ∷ marks) = ap (λ more. number_row n ∷ more) (push_false (n + 1) marks)
 push_false n (false ∷ marks) = push_false (n + 1) marks
 
 pub marks_push : (list : List Deposit) (d : Sent)
@@ -89,7 +89,7 @@ pub sents_push : (list : List Deposit) (d : Sent) → sents (list ++ unmarked d 
 sents_push list d = map-append (λ (x : Deposit). x.sent) list (unmarked d ∷ [])
 
 more_marks : (m k : ℕ) (list : List Deposit) (d : Deposit) → slice_get list k ≡ Some d
-    → d.withdrawn ≡ false → IsPermutation (mark_rows m (marks_of list) ++ mark_row (m + k) ∷ [])
+    → d.withdrawn ≡ false → IsPermutation (mark_rows m (marks_of list) ++ number_row (m + k) ∷ [])
     (mark_rows m (marks_of (marked (suc k) list)))
 more_marks m k [] d at none = absurd cc
 more_marks m zero (x ∷ list) d at none =
@@ -97,29 +97,29 @@ more_marks m zero (x ∷ list) d at none =
     let bare : x.withdrawn ≡ false = ap (λ (y : Deposit). y.withdrawn) same ∙ none in
     let e : m + 0 ≡ m = omega arith in
     let rest = mark_rows (m + 1) (marks_of list) in
-    subst (λ b. IsPermutation (mark_rows m (b ∷ marks_of list) ++ mark_row (m + 0) ∷ []) (mark_row m ∷ rest)) (sym bare)
-    (subst (λ j. IsPermutation (rest ++ mark_row j ∷ []) (mark_row m ∷ rest)) (sym e)
-    (IsPermutation-to_front rest (mark_row m)))
+    subst (λ b. IsPermutation (mark_rows m (b ∷ marks_of list) ++ number_row (m + 0) ∷ []) (number_row m ∷ rest)) (sym bare)
+    (subst (λ j. IsPermutation (rest ++ number_row j ∷ []) (number_row m ∷ rest)) (sym e)
+    (IsPermutation-to_front rest (number_row m)))
 more_marks m (suc k) (x ∷ list) d at none =
     let e : (m + 1) + k ≡ m + suc k = omega arith in
     let rest = mark_rows (m + 1) (marks_of list) in
     let more = mark_rows (m + 1) (marks_of (marked (suc k) list)) in
-    go x.withdrawn (subst (λ j. IsPermutation (rest ++ mark_row j ∷ []) more) e (more_marks (m + 1) k list d at none))
+    go x.withdrawn (subst (λ j. IsPermutation (rest ++ number_row j ∷ []) more) e (more_marks (m + 1) k list d at none))
   where
-    go : (b : Bool) → IsPermutation (mark_rows (m + 1) (marks_of list) ++ mark_row (m + suc k) ∷ [])
+    go : (b : Bool) → IsPermutation (mark_rows (m + 1) (marks_of list) ++ number_row (m + suc k) ∷ [])
         (mark_rows (m + 1) (marks_of (marked (suc k) list)))
-        → IsPermutation (mark_rows m (b ∷ marks_of list) ++ mark_row (m + suc k) ∷ [])
+        → IsPermutation (mark_rows m (b ∷ marks_of list) ++ number_row (m + suc k) ∷ [])
         (mark_rows m (b ∷ marks_of (marked (suc k) list)))
-    go true later = IsPermutation-cons (mark_row m) _ _ later
+    go true later = IsPermutation-cons (number_row m) _ _ later
     go false later = later
 
 -- the marks of a list with one deposit marked are those of the list, and that one
 pub mark_more : (n : ℕ) (list : List Deposit) (d : Deposit) → 0 < n → slice_get list (n - 1) ≡ Some d → d.withdrawn
-    ≡ false → IsPermutation (mark_rows 1 (marks_of list) ++ mark_row n ∷ []) (mark_rows 1 (marks_of (marked n list)))
+    ≡ false → IsPermutation (mark_rows 1 (marks_of list) ++ number_row n ∷ []) (mark_rows 1 (marks_of (marked n list)))
 mark_more n list d low at none =
     let e : suc (n - 1) ≡ n = omega (arith, low) in
     let f : 1 + (n - 1) ≡ n = omega (arith, low) in
     subst
-    (λ j. IsPermutation (mark_rows 1 (marks_of list) ++ mark_row n ∷ []) (mark_rows 1 (marks_of (marked j list)))) e
-    (subst (λ j. IsPermutation (mark_rows 1 (marks_of list) ++ mark_row j ∷ [])
+    (λ j. IsPermutation (mark_rows 1 (marks_of list) ++ number_row n ∷ []) (mark_rows 1 (marks_of (marked j list)))) e
+    (subst (λ j. IsPermutation (mark_rows 1 (marks_of list) ++ number_row j ∷ [])
     (mark_rows 1 (marks_of (marked (suc (n - 1)) list)))) f (more_marks 1 (n - 1) list d at none))

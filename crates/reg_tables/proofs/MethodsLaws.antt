@@ -19,10 +19,10 @@ use Rattle.reg_store.specs.declared.keep.KeepError.{KeepError}
 use Rattle.reg_store.specs.Keep.{deposit_of, sent_of}
 use Rattle.reg_store.specs.Sent.{Sent}
 use Rattle.reg_store.specs.Deposit.{Deposit, sents}
-use Rattle.reg_tables.specs.Rows.{deposit_table, given_deposit, line_table, step_table, placed_rows, rows_under}
+use Rattle.reg_tables.specs.Rows.{deposit_table, given_deposit, line_table, step_table, placed_rows, rows_under, has_number}
 use Rattle.reg_tables.specs.Rows.{step_pair}
 use Rattle.reg_store.specs.Fit.{IsFileOf, kept_rows}
-use Rattle.reg_tables.specs.Register.{deposits_in, deposit_in, has_number, file_lines, file_steps, KeepsRegister}
+use Rattle.reg_tables.specs.Register.{deposits_in, deposit_in, file_lines, file_steps, KeepsRegister}
 use Rattle.reg_tables.proofs.MarksLaws.{sent_at}
 use Rattle.reg_tables.proofs.ShowsLaws.{row_of_number}
 use Rattle.ags_links.proofs.Lemmas.{steps_ascend}

@@ -55,7 +55,7 @@ use Rattle.reg_tables.specs.Memory.{Agrees, Recalls}
 use Rattle.reg_tables.specs.Migrates.{AddsWithdrawals, FindsFirst, HoldsFirst, IsMigrated, MigratedOf, Migrates, RecallsFirst}
 use Rattle.reg_tables.specs.Register.{deposits_in, HoldsSent, IsRegister, IsRegisterOf, marks_of, meta_columns, sents_in, tables, text_in}
 use Rattle.reg_tables.specs.RegisterLaws.{sents_back}
-use Rattle.reg_tables.specs.Rows.{columns_3, mark_column}
+use Rattle.reg_tables.specs.Rows.{columns_3, first_column}
 use Rattle.reg_tables.specs.Tables.{meta, register_schema}
 use Rattle.reg_tables.specs.ReadBack.{read_back}
 use Rattle.reg_tables.proofs.ReadBackLaws.{holds_same, unmarked_register}
@@ -124,7 +124,7 @@ raises : (old new : Database) (text : List ℕ) → IsPermutation (meta_columns 
 raises old new text before after put = record {
   register = λ dictionary list was. record {
     holds = subst (HoldsSent Second new dictionary) (sym (sents_unmarked list)) (holds dictionary list was);
-    marks = subst₂ IsPermutation (sym (none_withdrawn 1 list)) (sym (ap (map mark_column) put.marks)) (IsPermutation-refl []);
+    marks = subst₂ IsPermutation (sym (none_withdrawn 1 list)) (sym (ap (map first_column) put.marks)) (IsPermutation-refl []);
   };
   bytes = text_of_meta 1 text _ before ∙ sym (text_of_meta 2 text _ after);
 }

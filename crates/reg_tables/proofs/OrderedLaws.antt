@@ -16,7 +16,7 @@ use Rattle.reg_tables.specs.Tables.{HasTables, HasMarkTable}
 use Rattle.reg_tables.proofs.Texts.{select_all_numbers, select_marks, select_meta}
 use Rattle.reg_tables.proofs.MeaningLaws.{all_marks, all_marks_read, all_numbers, all_numbers_read, all_meta}
 use Rattle.reg_tables.proofs.MeaningLaws.{all_meta_read}
-use Rattle.reg_tables.specs.Rows.{columns_3, columns_5, deposit_table, mark_column, mark_row}
+use Rattle.reg_tables.specs.Rows.{columns_3, columns_5, deposit_table, first_column, number_row}
 use Rattle.reg_tables.specs.Register.{deposit_rows, mark_rows, meta_columns}
 use Rattle.reg_tables.proofs.AnswersLaws.{all_pass, answers, reads_rows, shows_all}
 use Rattle.reg_tables.proofs.ReadsLaws.{AreFrom, rises}
@@ -74,15 +74,15 @@ marks_from m n (false ∷ marks) low = marks_from m (n + 1) marks (omega (arith,
 
 marks_show : (n : ℕ) (marks : List Bool) → map (λ (o : Output). o.1) (map by_first (mark_rows n marks)) ≡ mark_rows n marks
 marks_show n [] = refl
-marks_show n (true ∷ marks) = ap (λ all. mark_row n ∷ all) (marks_show (n + 1) marks)
+marks_show n (true ∷ marks) = ap (λ all. number_row n ∷ all) (marks_show (n + 1) marks)
 marks_show n (false ∷ marks) = marks_show (n + 1) marks
 
 pub shows_marks : (old new : State) (rows : List Row) → HasMarkTable old.now.schema
     → Shown select_marks [] old new rows → AreMarksInOrder old.now rows
 shows_marks old new rows has h =
     let a = answers select_marks 8 all_marks _ old new [] rows (all_marks_read old.now.schema has) refl h in (
-      shows_all a mark_column (λ _. refl) (λ _. refl),
-      λ marks are. reads_rows a mark_column (λ c. c) by_first (λ _. true) (λ _. refl) (λ _. refl) (mark_rows 1 marks)
+      shows_all a first_column (λ _. refl) (λ _. refl),
+      λ marks are. reads_rows a first_column (λ c. c) by_first (λ _. true) (λ _. refl) (λ _. refl) (mark_rows 1 marks)
           (subst (IsPermutation (mark_rows 1 marks)) (all_pass _) are)
           (rises by_first (output_cmp all_marks) (λ _ _. refl) 1 (mark_rows 1 marks) (marks_from 1 1 marks (omega arith)))
           ∙ marks_show 1 marks,

@@ -20,11 +20,10 @@ use Rattle.reg_tables.proofs.Texts.{select_front, select_targets}
 use Rattle.reg_store.specs.Sent.{Sent}
 use Rattle.reg_store.specs.Deposit.{sents}
 use Rattle.reg_store.specs.Fit.{IsFileOf, kept_rows}
-use Rattle.reg_tables.specs.Rows.{line_table, step_table, placed_rows, step_pair, rows_under}
+use Rattle.reg_tables.specs.Rows.{line_table, step_table, placed_rows, step_pair, rows_under, number_row}
 use Rattle.reg_tables.specs.Register.{deposits_in, KeepsRegister}
 use Rattle.reg_store.specs.Project.{project_from, project_of, targets_of}
 use Rattle.reg_tables.proofs.ReadsProjectLaws.{reads_front, reads_targets, same_targets}
-use Rattle.reg_tables.specs.ReadsProject.{target_cell}
 use Rattle.reg_tables.proofs.ReadsStepsLaws.{same_places}
 use Rattle.reg_tables.proofs.MethodsLaws.{graph_ascends, of_file}
 
@@ -34,7 +33,7 @@ pub front_lines : (old new : State) (n : ℕ) (lines : List KeptRow) → HasTabl
     → (file : List KeptRow) → IsPermutation (placed_rows 0 file) (rows_under n (line_table old.now.trees)) → lines ≡ take 5 file
 front_lines old new n lines has shown file are = same_places lines (take 5 file) (sym shown.2 ∙ reads_front old new n file shown.0 has are shown.1)
 
-pub targets_shown : (old new : State) (n row : ℕ) (targets : List ℕ) → HasTables old.now.schema → (rows : List Row) × Shown select_targets (Int (pos n) ∷ Int (pos row) ∷ []) old new rows × (rows ≡ map target_cell targets)
+pub targets_shown : (old new : State) (n row : ℕ) (targets : List ℕ) → HasTables old.now.schema → (rows : List Row) × Shown select_targets (Int (pos n) ∷ Int (pos row) ∷ []) old new rows × (rows ≡ map number_row targets)
     → (steps : List (ℕ × ℕ)) → IsAscending IsBefore steps → IsPermutation (map step_pair steps) (rows_under n (step_table old.now.trees)) → targets ≡ targets_of row steps
 targets_shown old new n row targets has shown steps up are = same_targets targets (targets_of row steps) (sym shown.2 ∙ reads_targets old new n row steps shown.0 has up are shown.1)
 

@@ -13,7 +13,7 @@ use Rattle.sqlite.specs.Order.{Row}
 use Rattle.ags_check.specs.Findings.{CheckedFile}
 use Rattle.reg_store.specs.declared.keep.KeptRow.{KeptRow}
 use Rattle.reg_store.specs.Sent.{Sent}
-use Rattle.reg_tables.specs.Rows.{given_deposit, is_of, rows_under, placed_row, placed_rows, line_rows, step_pair}
+use Rattle.reg_tables.specs.Rows.{given_deposit, has_number, rows_under, placed_row, placed_rows, line_rows, step_pair}
 use Rattle.reg_tables.specs.Rows.{step_rows, IsMore}
 use Rattle.reg_tables.specs.Register.{deposit_rows}
 use Rattle.reg_tables.specs.Pushes.{equal_at, apart_at}
@@ -53,8 +53,8 @@ other_steps m n (step ∷ steps) differ = rw (apart_at n m differ) (other_steps 
 rows_more : (m : ℕ) (old more new : List Row) → IsMore old more new
     → IsPermutation (rows_under m old ++ rows_under m more) (rows_under m new)
 rows_more m old more new h = subst (λ rows. IsPermutation rows (rows_under m new)) (ap (map (drop 1))
-    (filter-append (is_of m) old more) ∙ map-append (drop 1) (filter (is_of m) old) (filter (is_of m) more))
-    (IsPermutation-map (drop 1) _ _ (IsPermutation-filter (is_of m) (old ++ more) new h))
+    (filter-append (has_number m) old more) ∙ map-append (drop 1) (filter (has_number m) old) (filter (has_number m) more))
+    (IsPermutation-map (drop 1) _ _ (IsPermutation-filter (has_number m) (old ++ more) new h))
 
 -- an item more at the end leaves what is at other places
 pub pushed_get : {X : Type 0} (xs : List X) (x : X) (k : ℕ) → k ≢ length xs → slice_get (xs ++ x ∷ []) k ≡ slice_get xs k

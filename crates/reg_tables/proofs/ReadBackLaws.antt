@@ -15,7 +15,7 @@ use Rattle.reg_store.specs.Deposit.{Deposit, marked, sents, sents_marked, unmark
 use Rattle.reg_tables.specs.declared.schema.format.Format.{Format}
 use Rattle.reg_tables.specs.Tables.{format_number, schema_of}
 use Rattle.reg_tables.specs.declared.schema.format.Format.TheVariants.{First, Second}
-use Rattle.reg_tables.specs.Rows.{columns_3, columns_5, mark_column, mark_row, rows_under}
+use Rattle.reg_tables.specs.Rows.{columns_3, columns_5, first_column, number_row, rows_under}
 use Rattle.reg_tables.specs.Inserts.{AddsFile, AddsMark}
 use Rattle.reg_tables.specs.Marks.{long_sents}
 use Rattle.reg_tables.proofs.MarksLaws.{mark_more, marks_push, none_withdrawn, sents_push, sents_unmarked}
@@ -38,8 +38,8 @@ pub register_push : (dictionary : Entries) (old new : Database) (list : List Dep
 register_push dictionary old new list d file count was counted low put sound ready = record {
   holds = subst (HoldsSent Second new dictionary) (sym (sents_push list d)) (holds_push dictionary old new
       (sents list) d file count was.holds (counted ∙ sym (long_sents list)) low put sound ready);
-  marks = subst (λ rows. IsPermutation rows (map mark_column (new.trees 8))) (sym (marks_push list d))
-      (subst (λ (rows : List Row). IsPermutation (mark_rows 1 (marks_of list)) (map mark_column rows))
+  marks = subst (λ rows. IsPermutation rows (map first_column (new.trees 8))) (sym (marks_push list d))
+      (subst (λ (rows : List Row). IsPermutation (mark_rows 1 (marks_of list)) (map first_column rows))
       (sym put.marks) was.marks);
 }
 
@@ -79,6 +79,6 @@ register_mark dictionary old new list n d was low at none put = record {
   holds = subst (HoldsSent Second new dictionary) (sym (sents_marked n list))
       (holds_mark dictionary n old new (sents list) was.holds put);
   marks =
-      let more = IsPermutation-trans _ _ _ (IsPermutation-append_left (mark_row n ∷ []) _ _ was.marks) put.rows in
+      let more = IsPermutation-trans _ _ _ (IsPermutation-append_left (number_row n ∷ []) _ _ was.marks) put.rows in
       IsPermutation-trans _ _ _ (IsPermutation-sym _ _ (mark_more n list d low at none)) more;
 }

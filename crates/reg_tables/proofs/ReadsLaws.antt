@@ -21,7 +21,7 @@ use Rattle.reg_tables.specs.Tables.{HasTables}
 use Rattle.reg_tables.proofs.Texts.{select_lines}
 use Rattle.reg_tables.proofs.MeaningLaws.{lines_of_deposit, lines_read}
 use Rattle.reg_tables.proofs.PutLaws.{less}
-use Rattle.reg_tables.specs.Rows.{columns_5, line_table, placed_row, placed_rows, is_of, rows_under}
+use Rattle.reg_tables.specs.Rows.{columns_5, line_table, placed_row, placed_rows, has_number, rows_under}
 use Rattle.reg_tables.proofs.AnswersLaws.{answers, reads_rows, shows_rows}
 
 -- an order that tests as equal is equal
@@ -90,7 +90,7 @@ pub reads_lines : (old new : State) (n : ℕ) (file : List KeptRow) (rows : List
     → Shown select_lines (Int (pos n) ∷ []) old new rows → rows ≡ placed_rows 0 file
 reads_lines old new n file rows has holds h =
     let a = answers select_lines 4 lines_of_deposit _ old new (Int (pos n) ∷ []) rows (lines_read old.now.schema has) refl h in
-    reads_rows a columns_5 (drop 1) by_seq (is_of n) (λ r. of_number (column r 1) n) (λ _. refl) (placed_rows 0 file) holds
+    reads_rows a columns_5 (drop 1) by_seq (has_number n) (λ r. of_number (column r 1) n) (λ _. refl) (placed_rows 0 file) holds
     (rises by_seq (output_cmp lines_of_deposit) (λ _ _. refl) 0 (placed_rows 0 file) (lines_from 0 file)) ∙ lines_show 0 file
 
 -- Where the query shows these rows, the table holds them under the number, and no others: so a register is adopted.
@@ -98,4 +98,4 @@ pub holds_lines : (old new : State) (n : ℕ) (rows : List Row) → HasTables ol
     → Shown select_lines (Int (pos n) ∷ []) old new rows → IsPermutation rows (rows_under n (line_table old.now.trees))
 holds_lines old new n rows has h =
     let a = answers select_lines 4 lines_of_deposit _ old new (Int (pos n) ∷ []) rows (lines_read old.now.schema has) refl h in
-    shows_rows a columns_5 (drop 1) (is_of n) (λ r. of_number (column r 1) n) (λ _. refl)
+    shows_rows a columns_5 (drop 1) (has_number n) (λ r. of_number (column r 1) n) (λ _. refl)

@@ -1,4 +1,4 @@
--- Lemmas on the definitions of specs/ReadsProject.antt.
+-- Lemmas on what the query for the steps from a row shows.
 use Rattle.std.proofs.Common.{◌≡◌, ℕ, zero, suc, ◌+◌, ◌<◌, ◌≤◌, pos, List, [], ◌∷◌, map, filter, take, Bool, true}
 use Rattle.std.proofs.Common.{false, ◌&&◌, ◌==◌, if◌then◌else◌, refl, sym, ap, subst, subst₂, ◌∙◌, arith, Less, Equal, inl, inr}
 use Rattle.std.proofs.Common.{drop}
@@ -26,13 +26,12 @@ use Rattle.reg_tables.proofs.Texts.{select_front, select_targets}
 use Rattle.reg_tables.proofs.MeaningLaws.{front_of_deposit, front_read, targets_of_row, targets_read}
 use Rattle.reg_tables.proofs.PutLaws.{less}
 use Rattle.reg_tables.specs.Pushes.{equal_at, apart_at}
-use Rattle.reg_tables.specs.Rows.{columns_3, columns_5, line_table, step_table, placed_row, placed_rows, step_pair}
-use Rattle.reg_tables.specs.Rows.{is_of, rows_under}
+use Rattle.reg_tables.specs.Rows.{columns_3, columns_5, line_table, step_table, placed_row, placed_rows, step_pair, number_row}
+use Rattle.reg_tables.specs.Rows.{has_number, rows_under}
 use Rattle.reg_store.specs.Project.{targets_of}
 use Rattle.reg_tables.proofs.AnswersLaws.{answers, passes, reads_rows}
 use Rattle.reg_tables.proofs.ReadsLaws.{and_true, by_seq, eq_int, lines_from, lines_show, of_number, rises, truth_is}
 use Rattle.reg_tables.proofs.ReadsStepsLaws.{nat_in}
-use Rattle.reg_tables.specs.ReadsProject.{target_cell}
 
 -- ---- the first five rows
 
@@ -62,9 +61,9 @@ early_rows (suc k) at [] e = refl
 early_rows (suc k) at (row ∷ rows) e = rw (early_at at row (omega (arith, e)))
     (ap (λ all. placed_row at row ∷ all) (early_rows k (at + 1) rows (omega (arith, e))))
 
-test_front_is : (n : ℕ) (r : Row) → passes front_of_deposit (Int (pos n) ∷ []) r ≡ (is_of n (columns_5 r) && is_early (drop 1 (columns_5 r)))
+test_front_is : (n : ℕ) (r : Row) → passes front_of_deposit (Int (pos n) ∷ []) r ≡ (has_number n (columns_5 r) && is_early (drop 1 (columns_5 r)))
 test_front_is n r = ap (λ b. b && (is_early (drop 1 (columns_5 r)) && true)) (eq_int (column r 1) n)
-    ∙ ap (λ b. is_of n (columns_5 r) && b) (and_true (is_early (drop 1 (columns_5 r))))
+    ∙ ap (λ b. has_number n (columns_5 r) && b) (and_true (is_early (drop 1 (columns_5 r))))
 
 -- what passes a test, and its part another
 passed_both : (part : Row → Row) (p q : Row → Bool) (rows : List Row)
@@ -85,9 +84,9 @@ pub reads_front : (old new : State) (n : ℕ) (file : List KeptRow) (rows : List
     → Shown select_front (Int (pos n) ∷ []) old new rows → rows ≡ placed_rows 0 (take 5 file)
 reads_front old new n file rows has holds h =
     let a = answers select_front 4 front_of_deposit _ old new (Int (pos n) ∷ []) rows (front_read old.now.schema has) refl h in
-    let early = subst₂ IsPermutation (early_rows 5 0 file refl) (passed_both (drop 1) (is_of n) is_early (line_table old.now.trees))
+    let early = subst₂ IsPermutation (early_rows 5 0 file refl) (passed_both (drop 1) (has_number n) is_early (line_table old.now.trees))
     (IsPermutation-filter is_early _ _ holds) in
-    reads_rows a columns_5 (drop 1) by_seq (λ c. is_of n c && is_early (drop 1 c)) (test_front_is n) (λ _. refl)
+    reads_rows a columns_5 (drop 1) by_seq (λ c. has_number n c && is_early (drop 1 c)) (test_front_is n) (λ _. refl)
     (placed_rows 0 (take 5 file)) early
     (rises by_seq (output_cmp front_of_deposit) (λ _ _. refl) 0 (placed_rows 0 (take 5 file)) (lines_from 0 (take 5 file)))
     ∙ lines_show 0 (take 5 file)
@@ -96,17 +95,17 @@ abbrev by_target : Row → Output
 by_target c = (column c 1 ∷ [], column c 1 ∷ [])
 
 test_target_is : (n row : ℕ) (r : Row)
-    → passes targets_of_row (Int (pos n) ∷ Int (pos row) ∷ []) r ≡ (is_of n (columns_3 r) && is_of row (drop 1 (columns_3 r)))
+    → passes targets_of_row (Int (pos n) ∷ Int (pos row) ∷ []) r ≡ (has_number n (columns_3 r) && has_number row (drop 1 (columns_3 r)))
 test_target_is n row r =
     ap (λ b. b && (is_true (binary (Compare Eq Binary) (column r 2) (Int (pos row))) && true)) (eq_int (column r 1) n)
-    ∙ ap (λ b. is_of n (columns_3 r) && b) (of_number (column r 2) row)
+    ∙ ap (λ b. has_number n (columns_3 r) && b) (of_number (column r 2) row)
 
 abbrev target_entry : ℕ → Output
-target_entry target = (target_cell target, target_cell target)
+target_entry target = (number_row target, number_row target)
 
 -- the steps that start at the row are those whose first column is its number
 targets_are_entries : (row : ℕ) (steps : List (ℕ × ℕ))
-    → map by_target (filter (is_of row) (map step_pair steps)) ≡ map target_entry (targets_of row steps)
+    → map by_target (filter (has_number row) (map step_pair steps)) ≡ map target_entry (targets_of row steps)
 targets_are_entries row [] = refl
 targets_are_entries row (step ∷ steps) = go (step.0 == row) refl (targets_are_entries row steps)
   where
@@ -118,16 +117,16 @@ targets_are_entries row (step ∷ steps) = go (step.0 == row) refl (targets_are_
     apart e = apart_at step.0 row (eqb-false step.0 row e)
 
     go : (b : Bool) → step.0 == row ≡ b
-        → map by_target (filter (is_of row) (map step_pair steps)) ≡ map target_entry (targets_of row steps)
-        → map by_target (filter (is_of row) (map step_pair (step ∷ steps))) ≡ map target_entry
+        → map by_target (filter (has_number row) (map step_pair steps)) ≡ map target_entry (targets_of row steps)
+        → map by_target (filter (has_number row) (map step_pair (step ∷ steps))) ≡ map target_entry
         (map (λ s. s.1) (if b then step ∷ filter (λ s. s.0 == row) steps else filter (λ s. s.0 == row) steps))
     go true e h = rw (same e) (ap (λ all. target_entry step.1 ∷ all) h)
     go false e h = rw (apart e) h
 
 target_entries_show : (targets : List ℕ)
-    → map (λ (o : Output). o.1) (map target_entry targets) ≡ map target_cell targets
+    → map (λ (o : Output). o.1) (map target_entry targets) ≡ map number_row targets
 target_entries_show [] = refl
-target_entries_show (target ∷ targets) = ap (λ all. target_cell target ∷ all) (target_entries_show targets)
+target_entries_show (target ∷ targets) = ap (λ all. number_row target ∷ all) (target_entries_show targets)
 
 -- after a step from the row, the targets are above that of it
 above : (row : ℕ) (p : ℕ × ℕ) (steps : List (ℕ × ℕ)) → p.0 ≡ row → AllByRecursion (IsBefore p) steps
@@ -169,17 +168,17 @@ entries_rise targets h =
 pub reads_targets : (old new : State) (n row : ℕ) (steps : List (ℕ × ℕ)) (rows : List Row) → HasTables old.now.schema
     → IsAscending IsBefore steps → IsPermutation (map step_pair steps) (rows_under n (step_table old.now.trees))
     → Shown select_targets (Int (pos n) ∷ Int (pos row) ∷ []) old new rows
-    → rows ≡ map target_cell (targets_of row steps)
+    → rows ≡ map number_row (targets_of row steps)
 reads_targets old new n row steps rows has up holds h =
     let params = Int (pos n) ∷ Int (pos row) ∷ [] in
     let a = answers select_targets 6 targets_of_row _ old new params rows (targets_read old.now.schema has) refl h in
-    let from = filter (is_of row) (map step_pair steps) in
-    let held = subst (IsPermutation from) (passed_both (drop 1) (is_of n) (is_of row) (step_table old.now.trees))
-    (IsPermutation-filter (is_of row) _ _ holds) in
+    let from = filter (has_number row) (map step_pair steps) in
+    let held = subst (IsPermutation from) (passed_both (drop 1) (has_number n) (has_number row) (step_table old.now.trees))
+    (IsPermutation-filter (has_number row) _ _ holds) in
     let its = targets_are_entries row steps in
     let rise = subst (IsAscending (λ x y. output_cmp targets_of_row x y ≡ Less)) (sym its)
     (entries_rise (targets_of row steps) (targets_rise row steps up)) in
-    reads_rows a columns_3 (drop 1) by_target (λ c. is_of n c && is_of row (drop 1 c)) (test_target_is n row) (λ _. refl) from held rise
+    reads_rows a columns_3 (drop 1) by_target (λ c. has_number n c && has_number row (drop 1 c)) (test_target_is n row) (λ _. refl) from held rise
     ∙ ap (map (λ (o : Output). o.1)) its ∙ target_entries_show (targets_of row steps)
 
 -- ---- the rows of an answer give back the targets
@@ -187,9 +186,9 @@ reads_targets old new n row steps rows has up holds h =
 abbrev of_cell : Row → ℕ
 of_cell r = nat_in (column r 0)
 
-cells_back : (targets : List ℕ) → map of_cell (map target_cell targets) ≡ targets
+cells_back : (targets : List ℕ) → map of_cell (map number_row targets) ≡ targets
 cells_back [] = refl
 cells_back (target ∷ targets) = ap (λ all. target ∷ all) (cells_back targets)
 
-pub same_targets : (targets others : List ℕ) → map target_cell targets ≡ map target_cell others → targets ≡ others
+pub same_targets : (targets others : List ℕ) → map number_row targets ≡ map number_row others → targets ≡ others
 same_targets targets others h = sym (cells_back targets) ∙ ap (map of_cell) h ∙ cells_back others

@@ -19,7 +19,7 @@ use Rattle.reg_tables.specs.Tables.{HasTables}
 use Rattle.reg_tables.proofs.Texts.{select_steps}
 use Rattle.reg_tables.proofs.MeaningLaws.{steps_of_deposit, steps_read}
 use Rattle.reg_tables.proofs.PutLaws.{less}
-use Rattle.reg_tables.specs.Rows.{columns_3, step_table, step_pair, placed_rows, is_of, rows_under}
+use Rattle.reg_tables.specs.Rows.{columns_3, step_table, step_pair, placed_rows, has_number, rows_under}
 use Rattle.reg_tables.proofs.AnswersLaws.{answers, reads_rows, shows_rows}
 use Rattle.reg_tables.proofs.ReadsLaws.{of_number}
 
@@ -52,7 +52,7 @@ pub reads_steps : (old new : State) (n : ℕ) (steps : List (ℕ × ℕ)) (rows 
     → Shown select_steps (Int (pos n) ∷ []) old new rows → rows ≡ map step_pair steps
 reads_steps old new n steps rows has up holds h =
     let a = answers select_steps 6 steps_of_deposit _ old new (Int (pos n) ∷ []) rows (steps_read old.now.schema has) refl h in
-    reads_rows a columns_3 (drop 1) by_pair (is_of n) (λ r. of_number (column r 1) n) (λ _. refl) (map step_pair steps) holds
+    reads_rows a columns_3 (drop 1) by_pair (has_number n) (λ r. of_number (column r 1) n) (λ _. refl) (map step_pair steps) holds
     (steps_rise steps up) ∙ step_entries_show steps
 
 -- Where the query shows these rows, the table holds them under the number, and no others.
@@ -60,7 +60,7 @@ pub holds_steps : (old new : State) (n : ℕ) (rows : List Row) → HasTables ol
     → Shown select_steps (Int (pos n) ∷ []) old new rows → IsPermutation rows (rows_under n (step_table old.now.trees))
 holds_steps old new n rows has h =
     let a = answers select_steps 6 steps_of_deposit _ old new (Int (pos n) ∷ []) rows (steps_read old.now.schema has) refl h in
-    shows_rows a columns_3 (drop 1) (is_of n) (λ r. of_number (column r 1) n) (λ _. refl)
+    shows_rows a columns_3 (drop 1) (has_number n) (λ r. of_number (column r 1) n) (λ _. refl)
 
 -- ---- the rows of an answer give back what was kept
 

@@ -6,8 +6,8 @@ use Rattle.sqlite.specs.Order.{Row}
 use Rattle.sqlite.proofs.Callers.{one_permutation}
 use Rattle.sqlite_keyed.proofs.ListLemmas.{IsPermutation-filter}
 use Rattle.reg_store.specs.Sent.{Sent}
-use Rattle.reg_tables.specs.Rows.{given_deposit}
-use Rattle.reg_tables.specs.Register.{deposit_rows, has_number}
+use Rattle.reg_tables.specs.Rows.{given_deposit, has_number}
+use Rattle.reg_tables.specs.Register.{deposit_rows}
 use Rattle.reg_tables.specs.RegisterLaws.{none_before}
 use Rattle.reg_tables.specs.Pushes.{equal_at, apart_at}
 

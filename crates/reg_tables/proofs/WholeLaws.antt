@@ -14,10 +14,10 @@ use Rattle.reg_tables.specs.declared.schema.format.Format.{Format}
 use Rattle.reg_tables.specs.Tables.{format_number, schema_of}
 use Rattle.reg_store.specs.Fit.{IsFileOf, IsNamed}
 use Rattle.reg_store.specs.ApartLaws.{apart_all, apart_pair}
-use Rattle.reg_tables.specs.Rows.{columns_3, columns_5, deposit_table, given_deposit, line_table, step_table, rows_under}
-use Rattle.reg_tables.specs.Register.{has_number, file_lines, file_steps, HoldsSent}
+use Rattle.reg_tables.specs.Rows.{columns_3, columns_5, deposit_table, given_deposit, line_table, step_table, rows_under, first_column, has_number}
+use Rattle.reg_tables.specs.Register.{file_lines, file_steps, HoldsSent}
 use Rattle.reg_tables.proofs.ShowsLaws.{row_of_number}
-use Rattle.reg_tables.specs.Adopts.{number_rows, id_of}
+use Rattle.reg_tables.specs.Adopts.{number_rows}
 use Rattle.reg_tables.proofs.AdoptsLaws.{by_numbers, each_of, outside}
 use Rattle.reg_tables.proofs.ForeignLaws.{keyed_lines, keyed_steps, no_rows}
 use Rattle.sqlite_catalog.specs.Listing.{IsSound}
@@ -156,7 +156,7 @@ adopts_whole format db dictionary count schema sound meta counts all =
       short = meta.short;
       reads = meta.reads;
       meta = meta.meta;
-      deposits = by_numbers 1 list table (subst (λ n. IsPermutation (number_rows 1 n) (map id_of table)) (sym long) counts.1) rows;
+      deposits = by_numbers 1 list table (subst (λ n. IsPermutation (number_rows 1 n) (map first_column table)) (sym long) counts.1) rows;
       files = files;
       each = list_zip (IsFileOf dictionary) P (λ k p. p.deposit) (λ k p. p.body.file) count all (λ k p. p.body.its);
       named = list_all_of IsNamed P (λ k p. p.deposit) count all (λ k p. p.named);

@@ -14,8 +14,7 @@ use Rattle.sqlite.specs.Effect.{Database}
 use Rattle.ags_text.specs.Bytes.{line_feed}
 use Rattle.reg_tables.specs.declared.memory.digests.Digests.{Digests}
 use Rattle.reg_store.specs.Sent.{Sent, is_repeat}
-use Rattle.reg_tables.specs.Rows.{deposit_table, given_deposit}
-use Rattle.reg_tables.specs.Register.{has_number}
+use Rattle.reg_tables.specs.Rows.{deposit_table, given_deposit, has_number}
 
 -- The digest of a deposit: the SHA-256 of its firm, its project and its bytes, with a line feed after each of the two
 -- names.

@@ -14,8 +14,8 @@ use Rattle.ags_links.specs.Steps.{IsBefore}
 use Rattle.reg_store.specs.declared.keep.KeptRow.{KeptRow}
 use Rattle.reg_store.specs.Sent.{Sent, is_repeat}
 use Rattle.reg_tables.specs.declared.schema.format.Format.TheVariants.{Second}
-use Rattle.reg_tables.specs.Rows.{columns_3, deposit_table}
-use Rattle.reg_tables.specs.Register.{deposit_rows, has_number, mark_rows, mark_table, meta_columns}
+use Rattle.reg_tables.specs.Rows.{columns_3, deposit_table, has_number}
+use Rattle.reg_tables.specs.Register.{deposit_rows, mark_rows, mark_table, meta_columns}
 use Rattle.reg_tables.specs.Quiet.{FindsThat, IsTheSame}
 use Rattle.reg_tables.specs.Digests.{HasEqual, HasNoEqual, IsRowOf}
 use Rattle.reg_tables.specs.Adopts.{number_rows}

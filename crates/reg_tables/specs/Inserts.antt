@@ -7,7 +7,7 @@ use Rattle.reg_store.specs.declared.keep.KeptRow.{KeptRow}
 use Rattle.reg_store.specs.Sent.{Sent}
 use Rattle.reg_tables.specs.Tables.{register_schema}
 use Rattle.reg_tables.specs.Rows.{columns_5, columns_3, line_table, line_rows, step_table, step_rows, given_deposit}
-use Rattle.reg_tables.specs.Rows.{deposit_table, mark_column, mark_row, IsMore}
+use Rattle.reg_tables.specs.Rows.{deposit_table, first_column, number_row, IsMore}
 
 -- One table holds more rows, by their columns, and the database is sound; the other tables are as they were.
 pub record AddsTo (tree : ℕ) (see : Row → Row) (more : List Row) (old new : Database) : Type 0 where
@@ -26,7 +26,7 @@ abbrev pub AddsSteps : List Row → Database → Database → Type 0
 AddsSteps = AddsTo 6 columns_3
 
 abbrev pub AddsMark : ℕ → Database → Database → Type 0
-AddsMark n = AddsTo 8 mark_column (mark_row n ∷ [])
+AddsMark n = AddsTo 8 first_column (number_row n ∷ [])
 
 -- a deposit with its rows and its steps
 pub record AddsFile (n : ℕ) (d : Sent) (rows : List KeptRow) (graph : List (ℕ × ℕ)) (old new : Database) : Type 0 where

@@ -16,7 +16,6 @@ pub mod Heads
 pub mod KeepLaws
 pub mod Creates
 pub mod Adopts
-pub mod ReadsProject
 pub mod Methods
 pub mod DataCount
 pub mod Small

@@ -2,12 +2,11 @@
 use Rattle.std.specs.Prelude.{◌≡◌, ℕ, zero, suc, ℤ, ◌+◌, ◌≤◌, pos, Bool, true, false, find, unwrap_or, List, [], ◌∷◌}
 use Rattle.std.specs.Prelude.{map, length, IsTrue, Option, Some, None, slice_get, codes, if◌then◌else◌}
 use Rattle.std.specs.List.{AllByRecursion, AllZip, list_any}
-use Rattle.std.specs.Ordering.{is_eq}
 use Rattle.std.specs.Str.{bytes_eq}
 use Rattle.std.specs.List.Sorted.{IsPermutation}
 use Rattle.sqlite.specs.declared.types.Value.{Value}
 use Rattle.sqlite.specs.declared.types.Value.TheVariants.{Int, Text as Words, Blob as Bytes}
-use Rattle.sqlite.specs.Order.{Row, bytes, column, value_cmp}
+use Rattle.sqlite.specs.Order.{Row, bytes, column}
 use Rattle.sqlite.specs.Tree.{Trees}
 use Rattle.sqlite.specs.Effect.{Database, IsDatabase}
 use Rattle.sqlite.specs.State.{State, HasCleanDisk}
@@ -20,8 +19,8 @@ use Rattle.reg_store.specs.Deposit.{Deposit, sents}
 use Rattle.reg_tables.specs.declared.schema.format.Format.{Format}
 use Rattle.reg_tables.specs.declared.schema.format.Format.TheVariants.{First, Second}
 use Rattle.reg_tables.specs.Tables.{format_number, register_schema, schema_of}
-use Rattle.reg_tables.specs.Rows.{columns_3, deposit_table, dictionary_row, format_row, is_of, line_table, mark_column}
-use Rattle.reg_tables.specs.Rows.{mark_row, step_table, placed_rows, step_pair, rows_under}
+use Rattle.reg_tables.specs.Rows.{columns_3, deposit_table, dictionary_row, first_column, format_row, has_number}
+use Rattle.reg_tables.specs.Rows.{line_table, number_row, step_table, placed_rows, step_pair, rows_under}
 use Rattle.reg_store.specs.Fit.{IsFileOf, IsNamed, kept_rows}
 use Rattle.reg_store.specs.Apart.{AreApart}
 
@@ -47,10 +46,6 @@ deposit_in c = record {
   bytes = bytes (column c 4);
 }
 
--- the row has the number
-abbrev pub has_number : ℕ → Row → Bool
-has_number n c = is_eq (value_cmp (column c 0) (Int (pos n)))
-
 -- the deposit of a number
 abbrev pub deposit_at : List Row → ℕ → Sent
 deposit_at rows n = deposit_in (unwrap_or (find (has_number n) rows) [])
@@ -73,19 +68,19 @@ marks_of list = map (λ d. d.withdrawn) list
 -- the numbers of the marked deposits as rows, numbered from n
 abbrev pub mark_rows : ℕ → List Bool → List Row
 mark_rows n [] = []
-mark_rows n (true ∷ more) = mark_row n ∷ mark_rows (n + 1) more
+mark_rows n (true ∷ more) = number_row n ∷ mark_rows (n + 1) more
 mark_rows n (false ∷ more) = mark_rows (n + 1) more
 
 -- the numbers in the table `withdrawals`; format 1 has no such table
 abbrev pub mark_table : Format → Trees → List Row
 mark_table First trees = []
-mark_table Second trees = map mark_column (trees 8)
+mark_table Second trees = map first_column (trees 8)
 
 -- what was sent, numbered from n, each with its mark among these
 abbrev pub with_marks : ℕ → List Row → List Sent → List Deposit
 with_marks n marks [] = []
 with_marks n marks (d ∷ more) =
-    record { sent = d; withdrawn = list_any (is_of n) marks } ∷ with_marks (n + 1) marks more
+    record { sent = d; withdrawn = list_any (has_number n) marks } ∷ with_marks (n + 1) marks more
 
 -- what the tables of format 2 say
 unfoldable pub deposits_in : Trees → List Deposit

@@ -8,8 +8,8 @@ use Rattle.sqlite.proofs.Callers.{one_permutation}
 use Rattle.sqlite.specs.Order.{Row}
 use Rattle.sqlite.specs.Tree.{Trees}
 use Rattle.reg_store.specs.Sent.{Sent}
-use Rattle.reg_tables.specs.Rows.{given_deposit, deposit_table}
-use Rattle.reg_tables.specs.Register.{deposit_rows, deposit_in, has_number, deposit_at, deposits_from, sents_in}
+use Rattle.reg_tables.specs.Rows.{given_deposit, deposit_table, has_number}
+use Rattle.reg_tables.specs.Register.{deposit_rows, deposit_in, deposit_at, deposits_from, sents_in}
 use Rattle.reg_tables.specs.Pushes.{equal_at, apart_at}
 
 -- among the rows of a list one has the number of a deposit

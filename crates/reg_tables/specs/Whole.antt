@@ -11,9 +11,9 @@ use Rattle.ags_check.specs.Findings.{CheckedFile}
 use Rattle.reg_store.specs.Sent.{Sent}
 use Rattle.reg_store.specs.Fit.{IsFileOf, IsNamed, kept_rows}
 use Rattle.reg_tables.specs.Digests.{IsFirst}
-use Rattle.reg_tables.specs.Rows.{deposit_table, given_deposit, columns_3}
-use Rattle.reg_tables.specs.Register.{deposit_rows, has_number, meta_columns}
-use Rattle.reg_tables.specs.Adopts.{number_rows, id_of}
+use Rattle.reg_tables.specs.Rows.{deposit_table, given_deposit, columns_3, first_column, has_number}
+use Rattle.reg_tables.specs.Register.{deposit_rows, meta_columns}
+use Rattle.reg_tables.specs.Adopts.{number_rows}
 use Rattle.reg_tables.specs.Methods.{HoldsLines, HoldsSteps}
 
 -- A test finds the fact out: it is true only where the fact holds, and false only where it does not.
@@ -44,7 +44,8 @@ pub record IsWhole (db : Database) (dictionary : Entries) (n : ℕ) : Type 0 whe
 
 -- The numbers of the deposits are those from 1 to the count, which is at most 999,999; or they are not.
 abbrev pub Counts : Database → Option ℕ → Type 0
-Counts db (Some count) = (count ≤ 999999) × IsPermutation (number_rows 1 count) (map id_of (deposit_table db.trees))
+Counts db (Some count) =
+    (count ≤ 999999) × IsPermutation (number_rows 1 count) (map first_column (deposit_table db.trees))
 Counts db None =
     (list : List Sent) → length list ≤ 999999 → IsPermutation (deposit_rows 1 list) (deposit_table db.trees) → ⊥
 

@@ -7,11 +7,11 @@ ghost use Rattle.sqlite.specs.Held.{state};
 ghost use Rattle.reg_store.specs.Keep.{fails};
 ghost use Rattle.reg_tables.specs.Quiet.{IsIdle, IsStill, FindsThat};
 ghost use Rattle.reg_tables.specs.Found.{AreNumbersFromOne, FindsAll};
-ghost use Rattle.reg_tables.specs.Rows.{deposit_table};
+ghost use Rattle.reg_tables.specs.Rows.{deposit_table, first_column};
 ghost use Rattle.reg_tables.specs.Tables.{format_number, schema_of};
 ghost use Rattle.reg_tables.specs.Heads.{HoldsHeads};
 ghost use Rattle.reg_tables.specs.Digests.{AreBelow, HoldsDigests, numbers_under};
-ghost use Rattle.reg_tables.specs.Adopts.{id_of, number_rows};
+ghost use Rattle.reg_tables.specs.Adopts.{number_rows};
 ghost use Rattle.reg_tables.specs.Whole.{Counts};
 ghost use Rattle.reg_tables.specs.Adoption.{CountsDeposits, Examines, InEachFormat, MetaOf, gives_up};
 ghost use Rattle.sqlite.specs.Effect.{IsDatabase};
@@ -155,7 +155,7 @@ fn read_count<S: Alter>(conn: &mut Connection<S>) -> Result<Option<u32>, KeepErr
 
 fn read_numbers<S: Alter>(conn: &mut Connection<S>) -> Result<Vec<Row>, KeepError>
     requires idle { IsIdle (state S.Store conn.old) }
-    ensures all { FindsAll result (λ db. map id_of (deposit_table db.trees))
+    ensures all { FindsAll result (λ db. map first_column (deposit_table db.trees))
         (state S.Store conn.old) (state S.Store conn.new) }
     ensures found { FindsThat result (λ db rows. AreNumbersFromOne db rows.items)
         (state S.Store conn.old) (state S.Store conn.new) }

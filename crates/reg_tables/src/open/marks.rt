@@ -9,7 +9,7 @@ ghost use Rattle.reg_tables.specs.Adoption.{FindsMarks, gives_up};
 ghost use Rattle.reg_tables.specs.Found.{AreMarksInOrder};
 ghost use Rattle.reg_tables.specs.Quiet.{FindsThat, IsIdle, IsStill};
 ghost use Rattle.reg_tables.specs.Register.{mark_rows};
-ghost use Rattle.reg_tables.specs.Rows.{mark_row};
+ghost use Rattle.reg_tables.specs.Rows.{number_row};
 ghost use Rattle.reg_tables.specs.Tables.{HasMarkTable};
 
 use crate::error::AdoptError;
@@ -88,7 +88,7 @@ fn marks_in(alloc: Global, rows: &[Row], count: u32) -> Result<Option<Vec<bool>>
 
 /// Whether there is a row at this place, and it is the mark of this deposit.
 fn is_mark(rows: &[Row], at: usize, number: u32) -> bool
-    ensures { IsTrue result ↔ (slice_get rows.now at ≡ Some (mark_row number)) }
+    ensures { IsTrue result ↔ (slice_get rows.now at ≡ Some (number_row number)) }
 {
     match rows.get(at) {
         Some(row) => is_row(row, &[number.to_sql()]),

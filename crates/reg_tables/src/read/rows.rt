@@ -8,10 +8,9 @@ ghost use Rattle.reg_policy.specs.Names.{is_name};
 ghost use Rattle.reg_policy.specs.Days.{is_day_number};
 ghost use Rattle.reg_store.specs.Sent.{Sent};
 ghost use Rattle.reg_store.specs.Keep.{sent_of};
-ghost use Rattle.reg_tables.specs.Rows.{given_deposit, placed_row, placed_rows, step_pair};
+ghost use Rattle.reg_tables.specs.Rows.{given_deposit, placed_row, placed_rows, step_pair, number_row};
 ghost use Rattle.reg_tables.specs.DataCount.{is_shown_data};
 ghost use Rattle.reg_store.specs.Fit.{IsNamed};
-ghost use Rattle.reg_tables.specs.ReadsProject.{target_cell};
 
 use crate::read::gather::Gather;
 use crate::read::queries::keep_error;
@@ -156,7 +155,7 @@ pub(crate) struct KeptTargets {
 }
 
 impl Gather for KeptTargets {
-    ghost holds = { λ _ it rows. rows ≡ map target_cell it.targets.items };
+    ghost holds = { λ _ it rows. rows ≡ map number_row it.targets.items };
 
     fn take(&mut self, row: &Row) -> Result<(), KeepError> {
         let target = target_in(row)?;
@@ -168,7 +167,7 @@ impl Gather for KeptTargets {
 }
 
 fn target_in(row: &Row) -> Result<u32, KeepError>
-    ensures read { IfOk result (λ target. row.now ≡ target_cell target) }
+    ensures read { IfOk result (λ target. row.now ≡ number_row target) }
     ensures refused { IfErr result (λ e. e ≢ KeepError.Full) }
 {
     if row.column_count() != 1 {

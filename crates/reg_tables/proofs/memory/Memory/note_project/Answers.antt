@@ -26,5 +26,6 @@ returns-in-Ok-clone c =
             below = agrees.below;
             rows = agrees.rows;
             graph = agrees.graph;
+            repeat = agrees.repeat;
           });
     }
