@@ -1,10 +1,10 @@
 -- What is known of the deposits, as it is looked up, noted and grows with the list.
-use Rattle.std.proofs.Common.{zero, suc, ◌≡◌, ℕ, ◌+◌, ◌-◌, ◌<◌, ◌≤◌, Bool, true, false, cond, List, [], ◌∷◌, ◌++◌, get_or, length, map, take, if◌then◌else◌, Some, slice_get, refl, sym, ap, subst, subst₂, ◌∙◌, arith}
+use Rattle.std.proofs.Common.{zero, suc, ◌≡◌, ℕ, ◌+◌, ◌-◌, ◌<◌, ◌≤◌, Bool, true, false, List, [], ◌∷◌, ◌++◌, get_or, length, map, take, if◌then◌else◌, Some, slice_get, refl, sym, ap, subst, subst₂, ◌∙◌, arith}
 use Rattle.std.proofs.Math.ListN.{set}
 use Rattle.std.proofs.lemmas.List.{length_push, take_all}
 use Rattle.std.proofs.lemmas.Option.{slice_get_read}
 use Rattle.std.proofs.lemmas.Slice.Zip.{AllZip-long}
-use Rattle.std.specs.List.{AllZip, position_from}
+use Rattle.std.specs.List.{AllZip}
 use Rattle.std.specs.Str.{bytes_eq}
 use Rattle.sqlite.specs.Effect.{Database}
 use Rattle.sqlite.specs.State.{State, HasCleanDisk}
@@ -13,7 +13,7 @@ use Rattle.ags_check.specs.Findings.{CheckedFile}
 use Rattle.reg_store.specs.declared.keep.KeptHead.{KeptHead}
 use Rattle.reg_store.specs.Keep.{OfDeposit}
 use Rattle.reg_store.specs.Reading.{HasGraph, HasKeptRows}
-use Rattle.reg_store.specs.Sent.{Sent, is_repeat, number_of, numbers_from}
+use Rattle.reg_store.specs.Sent.{Sent, numbers_from}
 use Rattle.reg_store.specs.Deposit.{Deposit, marked, sents, sents_marked, unmarked}
 use Rattle.reg_tables.specs.declared.memory.Coming.{Coming}
 use Rattle.reg_tables.specs.declared.memory.Known.{Known}
@@ -127,19 +127,9 @@ still_of dictionary list d n Holds it =
     let same = sym (pushed_get (sents list) d (n - 1) (λ e. absurd (omega (arith, low, e)))) in
     ((it.0.0, omega (arith, it.0.1, longer)), λ e file at of. it.1 e file (same ∙ ap (λ (all : List Sent). slice_get all (n - 1)) (sym (sents_push list d)) ∙ at) of)
 
--- the first that passes the test stays the first
-still_placed : {X : Type 0} (p : X → Bool) (n m : ℕ) (xs : List X) (y : X) → Some m ≡ position_from p n xs → Some m ≡ position_from p n (xs ++ y ∷ [])
-still_placed p n m [] y found = absurd cc
-still_placed p n m (x ∷ xs) y found = go (p x) (λ later. still_placed p (n + 1) m xs y later) found
-  where
-    go : (b : Bool) → (Some m ≡ position_from p (n + 1) xs → Some m ≡ position_from p (n + 1) (xs ++ y ∷ []))
-        → Some m ≡ cond b (Some n) (position_from p (n + 1) xs) → Some m ≡ cond b (Some n) (position_from p (n + 1) (xs ++ y ∷ []))
-    go true rest here = here
-    go false rest later = rest later
-
 pub agrees_push : (old new : Memory) (coming : Coming) (dictionary : Entries) (list : List Deposit) (d : Sent) → new.known.items ≡ old.known.items ++ coming.known ∷ [] → PutsNumbers old.digests new.digests coming.digest coming.numbers.items
-    → new.rows ≡ old.rows → new.graph ≡ old.graph → new.repeat ≡ old.repeat → IsComing old d coming → Agrees old dictionary list → Agrees new dictionary (list ++ unmarked d ∷ [])
-agrees_push old new coming dictionary list d known puts rows graph repeat its agrees =
+    → new.rows ≡ old.rows → new.graph ≡ old.graph → IsComing old d coming → Agrees old dictionary list → Agrees new dictionary (list ++ unmarked d ∷ [])
+agrees_push old new coming dictionary list d known puts rows graph its agrees =
     let number : length old.known.items + 1 ≡ length list + 1 = ap (λ n. n + 1) agrees.known.long in
     let numbers = its.numbers ∙ ap (λ n. numbers_under old.digests (own_digest d) ++ n ∷ []) number ∙ ap (λ (x : List ℕ). numbers_under old.digests x ++ (length list + 1) ∷ []) (sym its.digest) in
     let adds : AddsNumber old.digests new.digests coming.digest (length list + 1) = subst (PutsNumbers old.digests new.digests coming.digest) numbers puts in
@@ -151,7 +141,6 @@ agrees_push old new coming dictionary list d known puts rows graph repeat its ag
       below = subst (λ n. AreBelow new.digests (n + 1)) (sym (length_push list (unmarked d))) (below_more old.digests new.digests coming.digest (length list + 1) (omega arith) adds agrees.below);
       rows = λ held at. still_of dictionary list d held.number (HasKeptRows held.rows) (agrees.rows held (sym rows ∙ at));
       graph = λ held at. still_of dictionary list d held.number (HasGraph held.graph) (agrees.graph held (sym graph ∙ at));
-      repeat = λ held at. still_placed (is_repeat held.firm held.project held.bytes) 1 held.number (sents list) d (agrees.repeat held (sym repeat ∙ at)) ∙ ap (number_of held.firm held.project held.bytes) (sym (sents_push list d));
     }
 
 -- where room is made, what is known stays
@@ -181,8 +170,8 @@ marked_of dictionary list n m Holds it =
 
 -- what is known agrees with the list, whose deposit is marked
 pub agrees_mark : (old new : Memory) (dictionary : Entries) (list : List Deposit) (n : ℕ) (one : Known) → 0 < n → slice_get old.known.items (n - 1) ≡ Some one → new.known.items ≡ set old.known.items (n - 1) (marked_one one)
-    → new.digests ≡ old.digests → new.rows ≡ old.rows → new.graph ≡ old.graph → new.repeat ≡ old.repeat → Agrees old dictionary list → Agrees new dictionary (marked n list)
-agrees_mark old new dictionary list n one low at known digests rows graph repeat agrees =
+    → new.digests ≡ old.digests → new.rows ≡ old.rows → new.graph ≡ old.graph → Agrees old dictionary list → Agrees new dictionary (marked n list)
+agrees_mark old new dictionary list n one low at known digests rows graph agrees =
     let e : suc (n - 1) ≡ n = omega (arith, low) in
     let all = mark_zipped dictionary list old.known.items (n - 1) one at (zipped dictionary list old.known.items agrees.known) in
     record {
@@ -191,7 +180,6 @@ agrees_mark old new dictionary list n one low at known digests rows graph repeat
       below = subst₂ (λ (held : Digests) (m : ℕ). AreBelow held (m + 1)) (sym digests) (sym (length_marked n list)) agrees.below;
       rows = λ held there. marked_of dictionary list n held.number (HasKeptRows held.rows) (agrees.rows held (sym rows ∙ there));
       graph = λ held there. marked_of dictionary list n held.number (HasGraph held.graph) (agrees.graph held (sym graph ∙ there));
-      repeat = λ held there. agrees.repeat held (sym repeat ∙ there) ∙ ap (number_of held.firm held.project held.bytes) (sym (sents_marked n list));
     }
 
 -- no deposit has the number

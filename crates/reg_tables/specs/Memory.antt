@@ -8,13 +8,12 @@ use Rattle.reg_store.specs.declared.keep.KeptHead.{KeptHead}
 use Rattle.reg_store.specs.Keep.{OfDeposit}
 use Rattle.reg_store.specs.Project.{targets_of}
 use Rattle.reg_store.specs.Reading.{HasGraph, HasKeptRows, HasProjectRow, OfFile}
-use Rattle.reg_store.specs.Sent.{Sent, number_of}
+use Rattle.reg_store.specs.Sent.{Sent}
 use Rattle.reg_store.specs.Deposit.{Deposit, sents}
 use Rattle.reg_tables.specs.declared.memory.Coming.{Coming}
 use Rattle.reg_tables.specs.declared.memory.Known.{Known}
 use Rattle.reg_tables.specs.declared.memory.Memory.{Memory}
 use Rattle.reg_tables.specs.declared.memory.recent.RecentGraph.{RecentGraph}
-use Rattle.reg_tables.specs.declared.memory.recent.RecentRepeat.{RecentRepeat}
 use Rattle.reg_tables.specs.declared.memory.recent.RecentRows.{RecentRows}
 use Rattle.sqlite.specs.Effect.{Database}
 use Rattle.reg_tables.specs.Register.{IsRegister, deposits_in}
@@ -49,8 +48,8 @@ pub record AreKnown (dictionary : Entries) (list : List Deposit) (known : List K
 abbrev pub IsNumberOf : ℕ → List Deposit → Type 0
 IsNumberOf n list = (0 < n) × (n ≤ length list)
 
--- What is known agrees with the list: of each deposit, of each digest, of the deposits whose rows and steps were read
--- last, and of the equal deposit that was found last.
+-- What is known agrees with the list: of each deposit, of each digest, and of the deposits whose rows and steps were
+-- read last.
 pub record Agrees (memory : Memory) (dictionary : Entries) (list : List Deposit) : Type 0 where
   pub known : AreKnown dictionary list memory.known.items
   pub digests : AreDigested memory.digests (sents list)
@@ -59,8 +58,6 @@ pub record Agrees (memory : Memory) (dictionary : Entries) (list : List Deposit)
       IsNumberOf held.number list × OfDeposit dictionary (sents list) held.number (HasKeptRows held.rows))
   pub graph : ForSome memory.graph (λ (held : RecentGraph).
       IsNumberOf held.number list × OfDeposit dictionary (sents list) held.number (HasGraph held.graph))
-  pub repeat : ForSome memory.repeat (λ (held : RecentRepeat).
-      Some held.number ≡ number_of held.firm held.project held.bytes (sents list))
 
 -- The tables are a register of this dictionary and of a list that is as long as what is known, which agrees with it.
 pub record Recalls (db : Database) (dictionary : Entries) (memory : Memory) : Type 0 where

@@ -65,9 +65,6 @@ impl<S: Alter> Keep for SqlKeep<S> {
         project: &Name,
         bytes: &[u8],
     ) -> Result<Option<u32>, KeepError> {
-        if let Some(number) = self.memory.held_repeat(firm, project, bytes) {
-            return Ok(Some(number));
-        }
         let digest = digest_of(firm, project, bytes);
         let numbers = self.memory.held_with_digest(&digest);
         let found = read_equal(
@@ -79,8 +76,6 @@ impl<S: Alter> Keep for SqlKeep<S> {
             bytes,
         );
         self.has_failed = has_store_error(&found);
-        self.memory
-            .note_repeat(self.alloc, firm, project, bytes, &found);
         found
     }
 

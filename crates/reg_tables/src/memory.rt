@@ -7,7 +7,7 @@ ghost use Rattle.reg_store.specs.Fit.{kept_rows};
 ghost use Rattle.reg_store.specs.Keep.{OfDeposit, fails};
 ghost use Rattle.reg_store.specs.Reading.{HasGraph, HasKeptRows, HasProjectRow, HasTargets, IsHeadAt};
 ghost use Rattle.reg_store.specs.Deposit.{Deposit, marked, sents, unmarked};
-ghost use Rattle.reg_store.specs.Sent.{Sent, number_of, numbers_from};
+ghost use Rattle.reg_store.specs.Sent.{Sent, numbers_from};
 ghost use Rattle.reg_tables.specs.Digests.{AreBelow, AreDigested, numbers_under};
 ghost use Rattle.reg_tables.specs.Heads.{AreHeads};
 ghost use Rattle.reg_tables.specs.Register.{marks_of};
@@ -17,9 +17,7 @@ pub(crate) mod digests;
 pub(crate) mod recent;
 
 use crate::memory::digests::{Digests, digest_of};
-use crate::memory::recent::{
-    RecentGraph, RecentRepeat, RecentRows, small_graph, small_repeat, small_rows,
-};
+use crate::memory::recent::{RecentGraph, RecentRows, small_graph, small_rows};
 use ags_links::Graph;
 use reg_policy::{Day, Name};
 use reg_store::{KeepError, KeptHead, KeptRow, ProjectRow};
@@ -38,8 +36,6 @@ pub(crate) struct Memory {
     rows: Option<RecentRows>,
     /// The steps that were read last.
     graph: Option<RecentGraph>,
-    /// The equal deposit that was found last.
-    repeat: Option<RecentRepeat>,
     ghost few: { length known.items ≤ 999999 },
 }
 
@@ -57,7 +53,6 @@ impl Memory {
             projects: 0,
             rows: None,
             graph: None,
-            repeat: None,
         }
     }
 
@@ -91,7 +86,6 @@ impl Memory {
             projects: 0,
             rows: None,
             graph: None,
-            repeat: None,
         })
     }
 
@@ -206,20 +200,6 @@ impl Memory {
         }
     }
 
-    /// The number of the first deposit of this firm, project and bytes.
-    pub(crate) fn held_repeat(&self, firm: &Name, project: &Name, bytes: &[u8]) -> Option<u32>
-        ensures { (dictionary : Entries) (list : List Deposit) → Agrees self.now dictionary list
-            → IfSome result (λ n. Some n ≡ number_of firm.now project.now bytes.now (sents list)) }
-    {
-        match &self.repeat {
-            Some(held)
-                if held.firm == *firm
-                    && held.project == *project
-                    && held.bytes.as_slice() == bytes => { Some(held.number) }
-            _ => None,
-        }
-    }
-
     /// Keeps a copy of the rows that were read of deposit n, if they are small and there is memory for it.
     pub(crate) fn note_rows(
         &mut self,
@@ -242,25 +222,6 @@ impl Memory {
     {
         if let Ok(graph) = read {
             self.graph = small_graph(alloc, n, graph);
-        }
-    }
-
-    /// Keeps a copy of the equal deposit that was found, if it is short and there is memory for it.
-    pub(crate) fn note_repeat(
-        &mut self,
-        alloc: Global,
-        firm: &Name,
-        project: &Name,
-        bytes: &[u8],
-        found: &Result<Option<u32>, KeepError>,
-    )
-        ensures long { length self.new.known.items ≡ length self.old.known.items }
-        ensures agrees { (dictionary : Entries) (list : List Deposit)
-            → IfOk found.now (λ n. n ≡ number_of firm.now project.now bytes.now (sents list))
-            → Agrees self.old dictionary list → Agrees self.new dictionary list }
-    {
-        if let Ok(Some(number)) = found {
-            self.repeat = small_repeat(alloc, *number, firm, project, bytes);
         }
     }
 

@@ -1,11 +1,10 @@
-//! What was read last, in memory: the rows and the steps of a deposit, and an equal deposit.
+//! The rows and the steps of a deposit that were read last, in memory.
 
 ghost use Rattle.std.specs.Prelude.{◌≡◌, ◌≤◌, length, IsTrue, IfOk, IfSome};
 ghost use Rattle.reg_tables.specs.Small.{AreSmall};
 
 use ags_links::Graph;
-use ags_text::{Bytes, copy};
-use reg_policy::Name;
+use ags_text::copy;
 use reg_store::{KeptRow, copy_graph};
 use std::alloc::{AllocError, Global};
 
@@ -35,26 +34,6 @@ pub(crate) fn small_graph(alloc: Global, number: u32, graph: &Graph) -> Option<R
     }
 }
 
-/// The deposit of this number, firm, project and bytes, copied, if it is short and there is memory for it.
-pub(crate) fn small_repeat(
-    alloc: Global,
-    number: u32,
-    firm: &Name,
-    project: &Name,
-    bytes: &[u8],
-) -> Option<RecentRepeat>
-    ensures { IfSome result (λ held. (held.number ≡ number)
-        × (held.firm ≡ firm.now) × (held.project ≡ project.now) × (held.bytes ≡ bytes.now)) }
-{
-    if bytes.len() > MOST_BYTES {
-        return None;
-    }
-    match copy_repeat(alloc, number, firm, project, bytes) {
-        Ok(repeat) => Some(repeat),
-        Err(_) => None,
-    }
-}
-
 /// The rows of a deposit.
 #[derive(Drop)]
 pub(crate) struct RecentRows {
@@ -71,21 +50,11 @@ pub(crate) struct RecentGraph {
     ghost few: { length graph.steps ≤ 4096 },
 }
 
-/// The first deposit of this firm, project and bytes.
-#[derive(Drop)]
-pub(crate) struct RecentRepeat {
-    pub(crate) number: u32,
-    pub(crate) firm: Name,
-    pub(crate) project: Name,
-    pub(crate) bytes: Bytes,
-    ghost short: { length bytes ≤ 65536 },
-}
-
 /// The most rows, and the most steps, that are in memory.
 const MOST_ROWS: usize = 4_096;
 
-/// The most bytes of group names and lines, and of an equal deposit, that are in memory.
-const MOST_BYTES: usize = 65_536;
+/// The most bytes of group names and lines that are in memory.
+const MOST_ROW_BYTES: usize = 65_536;
 
 /// Whether the rows are so few, and so short, that they may be in memory.
 fn are_small(rows: &[KeptRow]) -> bool
@@ -99,7 +68,7 @@ fn are_small(rows: &[KeptRow]) -> bool
         bytes = bytes
             .saturating_add(row.group.len())
             .saturating_add(row.line.len());
-        if bytes > MOST_BYTES {
+        if bytes > MOST_ROW_BYTES {
             return false;
         }
     }
@@ -125,25 +94,5 @@ fn copy_row(alloc: Global, row: &KeptRow) -> Result<KeptRow, AllocError>
         group: copy(alloc, row.group.as_slice())?,
         kind: row.kind,
         line: copy(alloc, row.line.as_slice())?,
-    })
-}
-
-/// A deposit of this number, firm, project and bytes.
-fn copy_repeat(
-    alloc: Global,
-    number: u32,
-    firm: &Name,
-    project: &Name,
-    bytes: &[u8],
-) -> Result<RecentRepeat, AllocError>
-    requires { length bytes.now ≤ 65536 }
-    ensures { IfOk result (λ held. (held.number ≡ number)
-        × (held.firm ≡ firm.now) × (held.project ≡ project.now) × (held.bytes ≡ bytes.now)) }
-{
-    Ok(RecentRepeat {
-        number,
-        firm: firm.clone()?,
-        project: project.clone()?,
-        bytes: copy(alloc, bytes)?,
     })
 }

@@ -13,5 +13,4 @@ returns-clause-agrees c = λ dictionary.
       below = none_below c.new-2.result 1 c.new-2.ensures;
       rows = λ held none. absurd cc;
       graph = λ held none. absurd cc;
-      repeat = λ held none. absurd cc;
     }

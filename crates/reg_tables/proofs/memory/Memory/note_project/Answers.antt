@@ -26,6 +26,5 @@ returns-in-Ok-clone c =
             below = agrees.below;
             rows = agrees.rows;
             graph = agrees.graph;
-            repeat = agrees.repeat;
           });
     }

@@ -34,6 +34,5 @@ returns-then-is_known c =
             below = agrees.below;
             rows = agrees.rows;
             graph = agrees.graph;
-            repeat = agrees.repeat;
           });
     }

@@ -46,5 +46,4 @@ returns-clause-agrees c = λ dictionary list heads marks digests below.
       below = below;
       rows = λ held none. absurd cc;
       graph = λ held none. absurd cc;
-      repeat = λ held none. absurd cc;
     }
