@@ -1,25 +1,15 @@
 //! A register of AGS4 files. Without arguments it checks a file on standard input, and prints its findings, or `clean`.
 #![tactic(auto)]
 
+use ags_cli::{Watched, words_given};
 use jiff::Zoned;
 use jiff::tz::TimeZone;
 use reg_app::{Machine, run_words};
-use reg_cli::{Fault, Watched};
 use reg_files::Files;
 use reg_policy::Day;
 use sqlite::{Start, Unknown};
-use std::env;
-use std::io::{ErrorKind, IsTerminal, Read, Write};
+use std::io::{IsTerminal, Read, Write};
 use std::process::ExitCode;
-
-/// The arguments that the program is started with, its name first. One that is not UTF-8 refuses them all.
-fn words_given(rt: &HostRuntime) -> Result<Vec<String>, Fault> {
-    match env::args(rt) {
-        Ok(words) => Ok(words.collect(rt.alloc())?),
-        Err(error) if error.kind() == ErrorKind::OutOfMemory => Err(Fault::NoMemory),
-        Err(_) => Err(Fault::WordsRefused),
-    }
-}
 
 /// The day that it is in UTC, if the clock tells one.
 fn today(rt: &HostRuntime) -> Option<Day> {

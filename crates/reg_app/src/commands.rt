@@ -1,16 +1,16 @@
 //! What each command does.
 
 ghost use Rattle.std.specs.Prelude.{◌≡◌, ◌≤◌, false, length};
-ghost use Rattle.reg_cli.specs.Checking.{ChecksInput};
-ghost use Rattle.reg_cli.specs.Streams.{HaveNotFailed, has_failed};
+ghost use Rattle.ags_cli.specs.Checking.{ChecksInput};
+ghost use Rattle.ags_cli.specs.Streams.{HaveNotFailed, has_failed};
 
 use crate::progress::ProgressLines;
 use crate::serving::{Serving, serve_desk, serve_register};
 use crate::stores::{Registers, make_private, migrate_register, open_register};
+use ags_cli::{Fault, Watched, run_without_words, tell};
 use reg_cli::{
-    Action, Asker, Failure, Fault, Session, Watched, Words, ask_deposit, ask_extract, ask_list,
-    ask_withdraw, check_given, day_or, dictionary_in, read_path, read_rights, read_words,
-    run_without_words, session_of, tell,
+    Action, Asker, Failure, Session, Words, ask_deposit, ask_extract, ask_list, ask_withdraw,
+    check_given, day_or, dictionary_in, read_path, read_rights, read_words, session_of,
 };
 use reg_desk::Desk;
 use reg_http::{groups_listed, number_of_deposit};

@@ -3,8 +3,8 @@ ghost use Rattle.std.specs.Prelude.{◌<◌};
 
 use crate::connection::Outcome;
 use crate::moment::Moment;
+use ags_cli::{Fault, Watched};
 use itoa::Buffer;
-use reg_cli::{Fault, Watched};
 use reg_http::{Summary, summary_of};
 use reg_policy::{Caller, Callers};
 use std::alloc::{AllocError, Global};

@@ -1,6 +1,6 @@
 //! Lines that say how far the start of a command is.
 
-use reg_cli::Watched;
+use ags_cli::Watched;
 use reg_store::Progress;
 use std::alloc::{AllocError, Global};
 use std::io::Write;

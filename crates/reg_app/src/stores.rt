@@ -3,8 +3,9 @@
 ghost use Rattle.std.specs.Prelude.{◌≡◌, ◌≤◌, false, IfOk, length};
 
 use crate::progress::ProgressLines;
+use ags_cli::Fault;
 use ags_rows::READABLE;
-use reg_cli::{Failure, Fault};
+use reg_cli::Failure;
 use reg_store::{Keep, Progress};
 use std::alloc::Global;
 use std::convert::AsStr;

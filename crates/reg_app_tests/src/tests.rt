@@ -3,8 +3,8 @@ mod checks;
 mod connections;
 mod progress;
 
+use ags_cli::{Watched, run_without_words};
 use ags_rows::vectors::FILE_A;
-use reg_cli::{Watched, run_without_words};
 use std::alloc::Global;
 use std::cmp::min;
 use std::io;

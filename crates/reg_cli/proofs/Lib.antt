@@ -1,5 +1,1 @@
-pub mod Taking
-pub mod Answering
-pub mod BuiltIn
-pub mod Telling
 pub mod Printed

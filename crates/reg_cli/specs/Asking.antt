@@ -6,13 +6,13 @@ use Rattle.reg_desk.specs.Asked.{Asked}
 use Rattle.reg_desk.specs.Desks.{AnsweredBy}
 use Rattle.reg_desk.specs.declared.answer.Answer.{Answer}
 use Rattle.reg_desk.specs.declared.desk.Desk.{Desk}
-use Rattle.reg_cli.specs.Faults.{TellsTo}
+use Rattle.ags_cli.specs.Faults.{TellsTo}
 use Rattle.reg_cli.specs.Printing.{IsPrinted, exit_status}
-use Rattle.reg_cli.specs.Streams.{has_failed, inner_of}
-use Rattle.reg_cli.specs.declared.fault.Fault.TheVariants.{NoMemory}
+use Rattle.ags_cli.specs.Streams.{has_failed, inner_of}
+use Rattle.ags_cli.specs.declared.fault.Fault.TheVariants.{NoMemory}
 use Rattle.reg_cli.specs.declared.failure.Failure.{Failure}
 use Rattle.reg_cli.specs.declared.failure.Failure.TheVariants.{Plain}
-use Rattle.reg_cli.specs.declared.watched.Watched.{Watched}
+use Rattle.ags_cli.specs.declared.watched.Watched.{Watched}
 
 module _ {W : Type 0} (writer : WriteGhosts W) where
   -- the answer was printed, or the writer failed, and the run ends with its status; or there was no memory for its text

@@ -2,10 +2,10 @@
 use Rattle.std.specs.Prelude.{ℕ, ℤ, List, ◌++◌, codes}
 use Rattle.std.specs.Fmt.{signed_decimal}
 use Rattle.std.specs.declared.io.Write.{Ghosts as WriteGhosts}
-use Rattle.reg_cli.specs.Faults.{TellsTo, fault_text, fault_status}
+use Rattle.ags_cli.specs.Faults.{TellsTo, fault_text, fault_status}
 use Rattle.reg_cli.specs.declared.failure.Failure.{Failure}
 use Rattle.reg_cli.specs.declared.failure.Failure.TheVariants.{Plain, CannotRead, CannotWrite, Version, CannotListen}
-use Rattle.reg_cli.specs.declared.watched.Watched.{Watched}
+use Rattle.ags_cli.specs.declared.watched.Watched.{Watched}
 
 -- the file at a path can not be read
 abbrev pub unread_text : List ℕ → List ℕ

@@ -1,11 +1,5 @@
-pub mod Streams
-pub mod Report
-pub mod Faults
-pub mod Reading
-pub mod Writing
-pub mod Answers
 pub mod Failures
-pub mod Checking
+pub mod Given
 pub mod Printing
 pub mod Asking
 pub mod Sessions

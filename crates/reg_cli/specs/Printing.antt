@@ -2,8 +2,8 @@
 use Rattle.std.specs.Prelude.{◌≡◌, ℕ, ℤ, List, [], ◌∷◌, ◌++◌, codes}
 use Rattle.std.specs.Fmt.{decimal}
 use Rattle.reg_policy.specs.Days.{Writes}
-use Rattle.reg_cli.specs.Report.{report_of}
-use Rattle.reg_cli.specs.declared.report.Report.{Report}
+use Rattle.ags_cli.specs.Report.{report_of}
+use Rattle.ags_cli.specs.declared.report.Report.{Report}
 use Rattle.reg_desk.specs.declared.answer.Answer.{Answer}
 use Rattle.reg_desk.specs.declared.answer.Answer.TheVariants as answers
 use Rattle.reg_desk.specs.declared.answer.Listed.{Listed}

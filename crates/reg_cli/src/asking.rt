@@ -7,7 +7,7 @@ ghost use Rattle.reg_cli.specs.Sessions.{deposit_request, extract_request, listi
 use crate::failure::Failure;
 use crate::printing::answer_report;
 use crate::session::Session;
-use crate::watched::Watched;
+use ags_cli::Watched;
 use reg_desk::{Desk, Request};
 use reg_policy::Day;
 use reg_store::Keep;

@@ -1,13 +1,12 @@
 //! What ends a command without an answer.
 
 ghost use Rattle.std.specs.Prelude.{◌≡◌};
-ghost use Rattle.reg_cli.specs.Faults.{TellsTo};
+ghost use Rattle.ags_cli.specs.Faults.{TellsTo};
 ghost use Rattle.reg_cli.specs.Failures.{TellsFailure, unread_text, unwritten_text, version_text};
-ghost use Rattle.reg_cli.specs.declared.fault.Fault.TheVariants.{NoMemory};
+ghost use Rattle.ags_cli.specs.declared.fault.Fault.TheVariants.{NoMemory};
 ghost use Rattle.reg_cli.specs.declared.failure.Failure.TheVariants.{Plain};
 
-use crate::fault::{Fault, tell, tell_line};
-use crate::watched::Watched;
+use ags_cli::{Fault, Watched, tell, tell_line};
 use itoa::Buffer;
 use std::alloc::AllocError;
 use std::io::Write;

@@ -6,7 +6,7 @@ ghost use Rattle.reg_policy.specs.Callers.{HasCallers};
 ghost use Rattle.reg_policy.specs.Rules.{HasRules};
 
 use crate::failure::Failure;
-use crate::fault::Fault;
+use ags_cli::Fault;
 use ags_dict::{DictError, Dictionary};
 use ags_rows::LIMIT;
 use reg_policy::{Callers, CallersError, Policy, PolicyError};

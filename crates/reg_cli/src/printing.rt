@@ -3,7 +3,7 @@
 ghost use Rattle.std.specs.Prelude.{◌≡◌, ◌++◌, IfOk, codes, decimal};
 ghost use Rattle.reg_cli.specs.Printing.{IsListedLine, IsReceipt, ListsAs, ReportsAnswer, dated_line};
 
-use crate::report::{Report, findings_report};
+use ags_cli::{Report, findings_report};
 use ags_rows::FindingList;
 use ags_text::Sequence;
 use reg_desk::{Answer, Listed};

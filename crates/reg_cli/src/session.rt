@@ -4,8 +4,8 @@ ghost use Rattle.std.specs.Prelude.{◌≡◌, IfOk, Some};
 ghost use Rattle.reg_policy.specs.Callers.{caller_of};
 ghost use Rattle.reg_cli.specs.Sessions.{IsDayOr};
 
-use crate::fault::Fault;
 use crate::words::Asker;
+use ags_cli::Fault;
 use reg_policy::{Caller, Callers, Day, Name, NameError};
 use std::alloc::Global;
 

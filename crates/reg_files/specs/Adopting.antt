@@ -1,5 +1,5 @@
 -- Why a store holds no register that can be opened, or migrated.
-use Rattle.reg_cli.specs.declared.fault.Fault.TheVariants as faults
+use Rattle.ags_cli.specs.declared.fault.Fault.TheVariants as faults
 use Rattle.reg_cli.specs.declared.failure.Failure.{Failure}
 use Rattle.reg_cli.specs.declared.failure.Failure.TheVariants.{Plain, Version}
 use Rattle.reg_tables.specs.declared.error.AdoptError.{AdoptError}

@@ -3,7 +3,8 @@
 ghost use Rattle.std.specs.Prelude.{◌≡◌};
 ghost use Rattle.reg_files.specs.Adopting.{adopting};
 
-use reg_cli::{Failure, Fault};
+use ags_cli::Fault;
+use reg_cli::Failure;
 use reg_tables::{AdoptError, CreateError};
 
 /// The failure to report where a store holds no register that can be opened, or migrated.

@@ -2,11 +2,10 @@
 
 ghost use Rattle.std.specs.Prelude.{◌≡◌, false};
 
+use ags_cli::Watched;
 use ags_dict::Dictionary;
 use ags_rows::vectors::{FILE_A, FILE_B, MINI};
-use reg_cli::{
-    Asker, Session, Watched, ask_deposit, ask_extract, ask_list, ask_withdraw, session_of,
-};
+use reg_cli::{Asker, Session, ask_deposit, ask_extract, ask_list, ask_withdraw, session_of};
 use reg_desk::Desk;
 use reg_policy::vectors::{CALLERS, POLICY};
 use reg_policy::{Callers, Day, Policy};

@@ -1,9 +1,9 @@
 //! The check of a file that a stream carries, and what is printed of its findings.
 
 use super::run_over;
+use ags_cli::{Report, findings_report};
 use ags_rows::vectors::FILE_A;
 use ags_rows::{Code, LIMIT, NotedFindings};
-use reg_cli::{Report, findings_report};
 use std::alloc::{AllocError, Global};
 use std::io;
 use std::io::Read;

@@ -3,10 +3,10 @@
 ghost use Rattle.std.specs.Prelude.{◌≡◌, false};
 
 use super::{Failing, failing_after};
+use ags_cli::Watched;
 use ags_dict::Dictionary;
 use ags_rows::vectors::{FILE_A, MINI};
 use reg_app::{Log, Serving, serve_on};
-use reg_cli::Watched;
 use reg_desk::Desk;
 use reg_policy::vectors::{CALLERS, POLICY};
 use reg_policy::{Callers, Policy};

@@ -1,8 +1,8 @@
 //! Lines that say how far a start is, at chosen times.
 
 use super::{Failing, failing_after};
+use ags_cli::Watched;
 use reg_app::ProgressLines;
-use reg_cli::Watched;
 use std::alloc::Global;
 use std::cell::Cell;
 use std::io;

@@ -1,0 +1,4 @@
+pub mod Taking
+pub mod Answering
+pub mod BuiltIn
+pub mod Telling

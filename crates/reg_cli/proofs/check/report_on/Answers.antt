@@ -1,6 +1,0 @@
-use Rattle.reg_cli.proofs.Answering.{reports}
-use Rattle.reg_cli.proofs.check.report_on.Goals as goal
-
-pub returns-clause-answers : goal.returns-clause-answers
-returns-clause-answers g c =
-    reports c.args.dictionary.now _ c.in_ok-bytes.bytes _ _ _ c.in_ok-bytes.ensures.file c.in_ok-bytes.ensures.short c.as_slice.ensures.value c.in_ok-found.ensures c.in_ok-findings_report.ensures
