@@ -6,9 +6,9 @@ use ags_cli::{Fault, Watched, run_without_words, words_given};
 use std::io::{Read, Write};
 use std::process::ExitCode;
 
-/// Runs the program over its three streams, of any types: what names the types of the real ones is kept short. It takes
-/// no arguments.
-fn run_program<R: Read + Drop, W: Write + Drop, E: Write + Drop>(
+/// The check over three streams, of any types: what names the types of the real ones is kept short. An argument is
+/// refused.
+fn check_input<R: Read + Drop, W: Write + Drop, E: Write + Drop>(
     rt: &HostRuntime,
     input: R,
     out: W,
@@ -25,5 +25,5 @@ fn run_program<R: Read + Drop, W: Write + Drop, E: Write + Drop>(
 }
 
 fn main(rt: HostRuntime) -> ExitCode {
-    ExitCode::from(run_program(&rt, rt.stdin(), rt.stdout(), rt.stderr()))
+    ExitCode::from(check_input(&rt, rt.stdin(), rt.stdout(), rt.stderr()))
 }

@@ -2,7 +2,7 @@
 //!
 //! Arguments, streams and what the machine says of a run are passed in. So contracts say what is printed, what is said
 //! of a fault and the status of a run, over readers and writers whose bytes they can name. What names no store and no
-//! socket is `reg_cli`.
+//! socket is `ags_cli` and `reg_cli`.
 #![tactic(auto)]
 
 mod commands;
