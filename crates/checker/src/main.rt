@@ -6,6 +6,10 @@ use ags_cli::{Fault, Watched, run_without_words, words_given};
 use std::io::{Read, Write};
 use std::process::ExitCode;
 
+fn main(rt: HostRuntime) -> ExitCode {
+    ExitCode::from(run_program(&rt, rt.stdin(), rt.stdout(), rt.stderr()))
+}
+
 /// Runs the program over its three streams, of any types: what names the types of the real ones is kept short. It takes
 /// no arguments.
 fn run_program<R: Read + Drop, W: Write + Drop, E: Write + Drop>(
@@ -22,8 +26,4 @@ fn run_program<R: Read + Drop, W: Write + Drop, E: Write + Drop>(
         Ok(_) => run_without_words(rt.alloc(), &mut input, &mut out, &mut err),
         Err(fault) => fault.tell(&mut err),
     }
-}
-
-fn main(rt: HostRuntime) -> ExitCode {
-    ExitCode::from(run_program(&rt, rt.stdin(), rt.stdout(), rt.stderr()))
 }
