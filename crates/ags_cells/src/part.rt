@@ -27,14 +27,6 @@ pub(crate) fn after_mark(text: &[u8], mark: u8) -> Option<&[u8]>
     }
 }
 
-/// How many digits the text begins with.
-fn digit_count(text: &[u8]) -> usize
-    ensures count { result ≡ prefix_len is_ascii_digit text.now }
-    ensures within { result ≤ length text.now }
-{
-    text.iter().take_while(|c| c.is_ascii_digit()).count()
-}
-
 /// The text after all its digits, if there are from `low` to `high` of them.
 #[tactic(auto, unfolding(crate::specs::Readers::after_digits))]
 pub(crate) fn after_digits(text: &[u8], low: usize, high: usize) -> Option<&[u8]>
@@ -46,6 +38,14 @@ pub(crate) fn after_digits(text: &[u8], low: usize, high: usize) -> Option<&[u8]
     } else {
         None
     }
+}
+
+/// How many digits the text begins with.
+fn digit_count(text: &[u8]) -> usize
+    ensures count { result ≡ prefix_len is_ascii_digit text.now }
+    ensures within { result ≤ length text.now }
+{
+    text.iter().take_while(|c| c.is_ascii_digit()).count()
 }
 
 /// The text after its digits, of which there is one or more.
@@ -79,6 +79,14 @@ pub(crate) fn after_places(text: &[u8], places: u8) -> Option<&[u8]>
     after_digits(after_mark(text, b'.')?, count, count)
 }
 
+/// The text after an exponent: `E` or `e`, a sign if there is one, and 1 to 3 digits.
+#[tactic(auto, unfolding(crate::specs::Readers::after_exponent))]
+pub(crate) fn after_exponent(text: &[u8]) -> Option<&[u8]>
+    ensures { option_map (λ r. r.now) result ≡ read.after_exponent text.now }
+{
+    after_digits(after_sign(after_exponent_mark(text)?), 1, 3)
+}
+
 /// The text after `E` or `e`.
 #[tactic(auto, unfolding(crate::specs::Readers::after_exponent_mark))]
 fn after_exponent_mark(text: &[u8]) -> Option<&[u8]>
@@ -88,14 +96,6 @@ fn after_exponent_mark(text: &[u8]) -> Option<&[u8]>
         [b'E' | b'e', rest @ ..] => Some(rest),
         _ => None,
     }
-}
-
-/// The text after an exponent: `E` or `e`, a sign if there is one, and 1 to 3 digits.
-#[tactic(auto, unfolding(crate::specs::Readers::after_exponent))]
-pub(crate) fn after_exponent(text: &[u8]) -> Option<&[u8]>
-    ensures { option_map (λ r. r.now) result ≡ read.after_exponent text.now }
-{
-    after_digits(after_sign(after_exponent_mark(text)?), 1, 3)
 }
 
 /// The number that two digits write, and the text after them.

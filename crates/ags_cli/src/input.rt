@@ -11,9 +11,6 @@ use std::alloc::{AllocError, Global};
 use std::cmp::min;
 use std::io::Read;
 
-/// How many bytes are asked for at a time.
-const PIECE: usize = 65_536;
-
 /// All bytes of the stream. No byte beyond the one after LIMIT is asked for.
 pub(crate) fn read_file<R: Read>(alloc: Global, input: &mut Watched<R>) -> Result<Vec<u8>, Fault>
     ensures taken { TakesAtMost (LIMIT + 1) (R.remaining input.old.inner) (R.remaining input.new.inner) }
@@ -32,6 +29,9 @@ pub(crate) fn read_file<R: Read>(alloc: Global, input: &mut Watched<R>) -> Resul
     }
     Err(Fault::TooLarge)
 }
+
+/// How many bytes are asked for at a time.
+const PIECE: usize = 65_536;
 
 /// Appends the bytes of one read of at most `room` bytes: how many, 0 at the end.
 fn read_piece<R: Read>(

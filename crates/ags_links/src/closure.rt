@@ -111,28 +111,6 @@ fn marked_rows(alloc: Global, marks: &[bool]) -> Result<Vec<u32>, AllocError>
     Ok(work)
 }
 
-/// Looks at each step beside a row, and counts it: where it leads is marked, and put on the work list if it was not.
-fn look(
-    beside: &[u32],
-    marks: &mut [bool],
-    work: &mut Vec<u32>,
-    turns: &mut u128,
-) -> Result<(), AllocError>
-    requires rows { All (λ s. s < length marks.old) beside.now }
-    requires room { turns.old + length beside.now < 2 ^ 128 }
-    ensures looked { OnOk result (Looked beside.now marks.old marks.new work.old.items work.new.items) }
-    ensures turns { OnOk result (turns.new ≡ turns.old + length beside.now) }
-{
-    for &target in beside {
-        *turns += 1;
-        if !marks[target as usize] {
-            marks[target as usize] = true;
-            work.push(target)?;
-        }
-    }
-    Ok(())
-}
-
 /// Empties the work list, and counts each row taken and each step looked at.
 fn follow(
     steps: &[(u32, u32)],
@@ -156,4 +134,26 @@ fn follow(
         look(&beside[row as usize], marks, work, &mut turns)?;
     }
     Ok(turns)
+}
+
+/// Looks at each step beside a row, and counts it: where it leads is marked, and put on the work list if it was not.
+fn look(
+    beside: &[u32],
+    marks: &mut [bool],
+    work: &mut Vec<u32>,
+    turns: &mut u128,
+) -> Result<(), AllocError>
+    requires rows { All (λ s. s < length marks.old) beside.now }
+    requires room { turns.old + length beside.now < 2 ^ 128 }
+    ensures looked { OnOk result (Looked beside.now marks.old marks.new work.old.items work.new.items) }
+    ensures turns { OnOk result (turns.new ≡ turns.old + length beside.now) }
+{
+    for &target in beside {
+        *turns += 1;
+        if !marks[target as usize] {
+            marks[target as usize] = true;
+            work.push(target)?;
+        }
+    }
+    Ok(())
 }

@@ -11,15 +11,6 @@ use crate::placed::{PlacedRow, field};
 use ags_rows::Places;
 use std::alloc::{AllocError, Global};
 
-/// Ends each text.
-const END_MARK: u8 = 0;
-
-/// The mark before a byte of a text that is a mark itself.
-const ESCAPE_MARK: u8 = 1;
-
-/// The bytes that a text is given room for at first; most have no more.
-const ROOM: usize = 32;
-
 /// Adds what is in the row at the places.
 pub(crate) fn push_entries(
     out: &mut Vec<u8>,
@@ -46,6 +37,12 @@ fn push_text(out: &mut Vec<u8>, text: &[u8]) -> Result<(), AllocError>
     out.push(END_MARK)?;
     Ok(())
 }
+
+/// Ends each text.
+const END_MARK: u8 = 0;
+
+/// The mark before a byte of a text that is a mark itself.
+const ESCAPE_MARK: u8 = 1;
 
 /// Whether no byte of the text is a mark.
 fn is_plain(text: &[u8]) -> bool
@@ -120,6 +117,9 @@ pub(crate) fn pieces_text(alloc: Global, delimiter: u8, part: &[u8]) -> Result<V
     text.push(END_MARK)?;
     Ok(text)
 }
+
+/// The bytes that a text is given room for at first; most have no more.
+const ROOM: usize = 32;
 
 /// The first place of the byte in the text, from 0.
 pub fn find_byte(text: &[u8], byte: u8) -> Option<usize>

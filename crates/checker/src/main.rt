@@ -6,6 +6,10 @@ use ags_cli::{Fault, Watched, run_without_words, words_given};
 use std::io::{Read, Write};
 use std::process::ExitCode;
 
+fn main(rt: HostRuntime) -> ExitCode {
+    ExitCode::from(check_input(&rt, rt.stdin(), rt.stdout(), rt.stderr()))
+}
+
 /// The check over three streams, of any types: what names the types of the real ones is kept short. An argument is
 /// refused.
 fn check_input<R: Read + Drop, W: Write + Drop, E: Write + Drop>(
@@ -22,8 +26,4 @@ fn check_input<R: Read + Drop, W: Write + Drop, E: Write + Drop>(
         Ok(_) => run_without_words(rt.alloc(), &mut input, &mut out, &mut err),
         Err(fault) => fault.tell(&mut err),
     }
-}
-
-fn main(rt: HostRuntime) -> ExitCode {
-    ExitCode::from(check_input(&rt, rt.stdin(), rt.stdout(), rt.stderr()))
 }

@@ -11,10 +11,8 @@ use sqlite::{Start, Unknown};
 use std::io::{IsTerminal, Read, Write};
 use std::process::ExitCode;
 
-/// The day that it is in UTC, if the clock tells one.
-fn today(rt: &HostRuntime) -> Option<Day> {
-    let now = Zoned::now(rt, TimeZone::UTC).ok()?;
-    Day::new(now.date().to_plain().to_unix_epoch_day())
+fn main(rt: HostRuntime) -> ExitCode {
+    ExitCode::from(run_program(&rt, Unknown, rt.stdin(), rt.stdout(), rt.stderr()))
 }
 
 /// Runs the program over its three streams, of any types: what names the types of the real ones is kept short. `F`
@@ -50,6 +48,8 @@ fn run_program<F: Start, R: Read + Drop, W: Write + Drop, E: Write + IsTerminal 
     }
 }
 
-fn main(rt: HostRuntime) -> ExitCode {
-    ExitCode::from(run_program(&rt, Unknown, rt.stdin(), rt.stdout(), rt.stderr()))
+/// The day that it is in UTC, if the clock tells one.
+fn today(rt: &HostRuntime) -> Option<Day> {
+    let now = Zoned::now(rt, TimeZone::UTC).ok()?;
+    Day::new(now.date().to_plain().to_unix_epoch_day())
 }

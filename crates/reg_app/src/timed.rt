@@ -18,16 +18,6 @@ pub(crate) fn end_of<C: Clock>(clock: &C, time: Duration) -> io::Result<Instant>
     }
 }
 
-/// What is left of the time up to an end, if anything is.
-fn left_to<C: Clock>(clock: &C, end: Instant) -> io::Result<Duration> {
-    let left = end.duration_since(Instant::now(clock)?);
-    if left.is_zero() {
-        Err(io::Error::from(ErrorKind::TimedOut))
-    } else {
-        Ok(left)
-    }
-}
-
 /// What a peer sends up to an end.
 #[derive(Drop)]
 pub(crate) struct Received<'s, C> {
@@ -61,6 +51,16 @@ impl<C: Clock> Read for Received<'_, C> {
         let count = stream.read(buf)?;
         self.front.add(&buf[..count]);
         Ok(count)
+    }
+}
+
+/// What is left of the time up to an end, if anything is.
+fn left_to<C: Clock>(clock: &C, end: Instant) -> io::Result<Duration> {
+    let left = end.duration_since(Instant::now(clock)?);
+    if left.is_zero() {
+        Err(io::Error::from(ErrorKind::TimedOut))
+    } else {
+        Ok(left)
     }
 }
 

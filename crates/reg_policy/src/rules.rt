@@ -89,29 +89,6 @@ fn effect_at(table: &Table) -> Result<Effect, ReadError>
     }
 }
 
-/// The word at a key, if it sets one: `*` sets nothing.
-fn word_at<'a>(table: &'a Table, key: &str) -> Result<Option<&'a str>, ReadError>
-    ensures { GivesWord (get_member key.now (table_view table.now)) result }
-{
-    match string_at(table, key)? {
-        Some("*") => Ok(None),
-        text => Ok(text),
-    }
-}
-
-fn name_at(alloc: Global, table: &Table, key: &str) -> Result<Option<Name>, ReadError>
-    ensures { Gives (IsSettingOf (IsWord is_name) (get_member key.now (table_view table.now))) result }
-{
-    let Some(word) = word_at(table, key)? else {
-        return Ok(None);
-    };
-    match Name::read(alloc, word) {
-        Ok(name) => Ok(Some(name)),
-        Err(NameError::BadName) => Err(ReadError::BadValue),
-        Err(NameError::NoMemory) => Err(ReadError::NoMemory),
-    }
-}
-
 fn verb_at(table: &Table) -> Result<Option<Verb>, ReadError>
     ensures { Gives (IsSettingOf IsVerb (get_member (codes "verb") (table_view table.now))) result }
 {
@@ -121,6 +98,16 @@ fn verb_at(table: &Table) -> Result<Option<Verb>, ReadError>
     match verb_of(word) {
         Some(verb) => Ok(Some(verb)),
         None => Err(ReadError::BadValue),
+    }
+}
+
+/// The word at a key, if it sets one: `*` sets nothing.
+fn word_at<'a>(table: &'a Table, key: &str) -> Result<Option<&'a str>, ReadError>
+    ensures { GivesWord (get_member key.now (table_view table.now)) result }
+{
+    match string_at(table, key)? {
+        Some("*") => Ok(None),
+        text => Ok(text),
     }
 }
 
@@ -140,18 +127,6 @@ fn verb_of(word: &str) -> Option<Verb>
     }
 }
 
-fn group_at(alloc: Global, table: &Table) -> Result<Option<Bytes>, ReadError>
-    ensures { Gives (IsSettingOf (IsWord is_group_name) (get_member (codes "group") (table_view table.now))) result }
-{
-    let Some(word) = word_at(table, "group")? else {
-        return Ok(None);
-    };
-    if !is_group_name(word.as_bytes()) {
-        return Err(ReadError::BadValue);
-    }
-    Ok(Some(copied(alloc, word)?))
-}
-
 /// Whether a key has the first of two words; none where it sets nothing.
 fn either_at(table: &Table, key: &str, word: &str, other: &str) -> Result<Option<bool>, ReadError>
     ensures { Gives (IsSettingOf (IsEither word.now other.now) (get_member key.now (table_view table.now))) result }
@@ -166,6 +141,31 @@ fn either_at(table: &Table, key: &str, word: &str, other: &str) -> Result<Option
     } else {
         Err(ReadError::BadValue)
     }
+}
+
+fn name_at(alloc: Global, table: &Table, key: &str) -> Result<Option<Name>, ReadError>
+    ensures { Gives (IsSettingOf (IsWord is_name) (get_member key.now (table_view table.now))) result }
+{
+    let Some(word) = word_at(table, key)? else {
+        return Ok(None);
+    };
+    match Name::read(alloc, word) {
+        Ok(name) => Ok(Some(name)),
+        Err(NameError::BadName) => Err(ReadError::BadValue),
+        Err(NameError::NoMemory) => Err(ReadError::NoMemory),
+    }
+}
+
+fn group_at(alloc: Global, table: &Table) -> Result<Option<Bytes>, ReadError>
+    ensures { Gives (IsSettingOf (IsWord is_group_name) (get_member (codes "group") (table_view table.now))) result }
+{
+    let Some(word) = word_at(table, "group")? else {
+        return Ok(None);
+    };
+    if !is_group_name(word.as_bytes()) {
+        return Err(ReadError::BadValue);
+    }
+    Ok(Some(copied(alloc, word)?))
 }
 
 /// `heading` and `value`: both or neither.

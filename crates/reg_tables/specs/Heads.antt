@@ -1,4 +1,4 @@
--- The heads of a register's deposits.
+-- The heads of a register's deposits. No promise is made of these words; `Agrees` uses `head_of`.
 use Rattle.std.specs.Prelude.{◌≡◌, ℕ, Bool, true, false, List, [], ◌∷◌, ◌++◌, length, map, Result, Ok}
 use Rattle.std.specs.declared.alloc.Global.{Global}
 use Rattle.std.specs.declared.vec.Vec.{Vec}

@@ -1,4 +1,5 @@
--- What is known of the deposits without the tables, and that it agrees with the list of deposits.
+-- What is known of the deposits without the tables, and that it agrees with the list of deposits. No promise is made of
+-- these words; the type `SqlKeep` keeps `Agrees`.
 use Rattle.std.specs.Prelude.{◌≡◌, ◌<◌, ◌≤◌, ◌+◌, ℕ, Bool, List, [], ◌∷◌, ◌++◌, length, IsSome, Some, None, slice_get}
 use Rattle.std.specs.Prelude.{vec_len, vec_capacity}
 use Rattle.std.specs.Option.{ForSome}

@@ -1,4 +1,5 @@
--- What `adopt` finds out of a deposit, and of all: as much as makes a register. No promise is made of these words.
+-- What `adopt` finds out of a deposit, and of all: as much as makes a register. Of these words only `HasMeta` is in a
+-- promise, through `Adopts`.
 use Rattle.std.proofs.Common.{◌≡◌, ℕ, ◌+◌, ◌<◌, ◌≤◌, Bool, true, false, List, [], ◌∷◌, ◌++◌, map, filter, take, length}
 use Rattle.std.proofs.Common.{Option, Some, None}
 use Rattle.std.specs.List.Sorted.{IsPermutation}
