@@ -7,7 +7,6 @@ mod files;
 mod migrating;
 mod progress;
 mod refusals;
-mod stops;
 
 use crate::tests::files::{File, bytes_of};
 use ags_check::{Checked, check};

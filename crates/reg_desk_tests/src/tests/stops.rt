@@ -20,6 +20,7 @@ use reg_tables::{AdoptError, CreateError, SqlKeep};
 use sqlite::{Alter, Connection, FileStore, Files, Options};
 use sqlite_disk::{Crash, Disk, Fuse, Memory};
 use std::alloc::{AllocError, Global};
+use std::io;
 use std::test::Fail;
 
 /// A file of a register.
@@ -394,17 +395,31 @@ fn stage_over<D: Crash + Drop>(
     }
 }
 
+/// A file in memory that has these bytes, all of them synced.
+fn copied(alloc: Global, file: &Fuse<Memory>) -> io::Result<Memory> {
+    let mut copy = Memory::new(alloc);
+    copy.write_at(0, file.inner().bytes())?;
+    copy.sync()?;
+    Ok(copy)
+}
+
 /// The files in memory over which a task begins: new ones, or those of a register of format 1 that is to be migrated.
+/// One type of file serves throughout: for each, the whole of `sqlite` is compiled anew.
 fn files_before(alloc: Global, side: Side, task: Task) -> Option<Files<Memory>> {
-    let files = Files {
-        log: Memory::new(alloc),
-        db: Memory::new(alloc),
-    };
+    let log = Memory::new(alloc);
+    let db = Memory::new(alloc);
     if !matches!(task, Task::Migrate) {
-        return Some(files);
+        return Some(Files { log, db });
     }
+    let files = Files {
+        log: Fuse::new(log, u64::MAX),
+        db: Fuse::new(db, u64::MAX),
+    };
     match run(alloc, side, files, Task::FillFirst) {
-        (Some(Stage::Ended), files) => Some(files),
+        (Some(Stage::Ended), Files { log, db }) => Some(Files {
+            log: copied(alloc, &log).ok()?,
+            db: copied(alloc, &db).ok()?,
+        }),
         _ => None,
     }
 }
@@ -417,7 +432,7 @@ fn stage_of(alloc: Global, side: Side, task: Task, calls: u64) -> Option<Stage> 
         Side::Database => (u64::MAX, calls),
     };
     let Files { mut log, mut db } = files_before(alloc, side, task)?;
-    // All was synced as the files were closed. A disk can be used again once what was not synced is lost.
+    // All of it is synced. A disk is known to be usable once what was not synced is lost.
     log.crash();
     db.crash();
     let log = Fuse::new(log, log_calls);

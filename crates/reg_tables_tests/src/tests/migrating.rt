@@ -16,7 +16,7 @@ use std::test::Fail;
 const TO_FORMAT_1: &str = "DROP TABLE withdrawals; UPDATE meta SET num = 1 WHERE name = 'format'";
 
 /// A deposit is sent.
-pub(crate) static SENT: [Case; 1] = [Case {
+static SENT: [Case; 1] = [Case {
     call: Call::Take("Delta", "N1", File::A),
     want: "1",
 }];
@@ -46,7 +46,7 @@ static HELD: [Case; 5] = [
 ];
 
 /// Deposits A, and makes the register one of format 1. Another answer than is wanted counts as out of memory.
-pub(crate) fn made_first<S: Alter + Drop>(
+fn made_first<S: Alter + Drop>(
     alloc: Global,
     keep: SqlKeep<S>,
 ) -> Result<Connection<S>, KeepError>
