@@ -1,4 +1,4 @@
-//! Worked examples of the desk, the same over each store.
+//! Worked examples of the desk, the same over each store, and what the stores alone answer.
 
 ghost use Rattle.std.specs.Prelude.{◌≡◌, ◌≤◌, ◌<◌, false};
 
@@ -8,10 +8,13 @@ mod failing;
 mod junk;
 mod laws;
 mod memory;
+mod migrating;
 mod policies;
+mod refusals;
 mod refusing;
 mod requests;
 mod stops;
+mod stores;
 mod wanted;
 
 use ags_dict::Dictionary;
@@ -22,6 +25,7 @@ use examples::{CHANGED, EXAMPLES, LONG, MOST};
 use laws::answers_after_deposit;
 use memory::again::is_answered_again;
 use memory::runs_out_once;
+use migrating::migrates;
 use policies::{Added, WITHDRAWALS, policy_with};
 use refusing::Refusing;
 use reg_desk::Desk;
@@ -30,8 +34,10 @@ use reg_policy::{Callers, Name, Policy};
 use reg_store::{Keep, PlainKeep};
 use reg_tables::{CreateError, SqlKeep};
 use requests::{bytes_sent, request_at};
+use sqlite::Alter;
 use std::alloc::{AllocError, Global};
 use std::process::Abort;
+use stores::keeps_second;
 use wanted::is_wanted;
 
 /// New lines in place of those from the first to the last.
@@ -135,6 +141,10 @@ pub enum Play {
     Again,
     /// Four requests are asked after a deposit of this body.
     AfterDeposit(&'static Body),
+    /// The store alone is asked, without a desk: for the second file as its first deposit.
+    Kept,
+    /// The same of tables: they are made those of a register of format 1, and migrated. No other store is asked.
+    Migrated,
 }
 
 /// Whether a step for this project is answered as it should be.
@@ -199,13 +209,14 @@ fn answers<K: Keep>(
         Play::Runs => runs_out_once(alloc, desk, callers, project),
         Play::Again => Ok(is_answered_again(alloc, desk, callers, project)),
         Play::AfterDeposit(body) => answers_after_deposit(alloc, desk, callers, project, body),
+        Play::Kept | Play::Migrated => Ok(true),
     }
 }
 
 /// The store, and whether a desk over it, under this policy, answers what is played for this project as it should.
 fn plays_at<K: Keep>(
     alloc: Global,
-    keep: K,
+    mut keep: K,
     policy: Policy,
     callers: &Callers,
     project: &Name,
@@ -213,6 +224,10 @@ fn plays_at<K: Keep>(
 ) -> (K, Result<bool, AllocError>)
     requires { K.has_failed keep ≡ false }
 {
+    if matches!(play, Play::Kept) {
+        let right = keeps_second(alloc, &mut keep, callers, project);
+        return (keep, right);
+    }
     let mut desk = Desk::new(keep, policy);
     let right = answers(alloc, &mut desk, callers, project, play);
     (desk.into_keep(), right)
@@ -285,7 +300,26 @@ fn unmade(error: CreateError) -> Result<bool, AllocError> {
     }
 }
 
-/// The same over tables. `SqlKeep` is shown to be a `Keep` here alone, and dropped by the crate that has it.
+/// The same over tables, in whatever store of SQLite. `SqlKeep` is dropped by the crate that has it.
+fn plays_on<S: Alter + Drop>(
+    alloc: Global,
+    keep: SqlKeep<S>,
+    policy: Policy,
+    callers: &Callers,
+    project: &Name,
+    play: Play,
+) -> Result<bool, AllocError>
+    requires { keep.has_failed ≡ false }
+{
+    if matches!(play, Play::Migrated) {
+        return migrates(alloc, keep);
+    }
+    let (keep, right) = plays_at(alloc, keep, policy, callers, project, play);
+    let _connection = keep.into_connection();
+    right
+}
+
+/// The same over tables in memory, which are shown to be a store of SQLite here alone, since that is long.
 fn plays_in_tables(
     alloc: Global,
     policy: Policy,
@@ -297,11 +331,7 @@ fn plays_in_tables(
         return Ok(false);
     }
     match SqlKeep::in_memory(alloc, MINI) {
-        Ok(keep) => {
-            let (keep, right) = plays_at(alloc, keep, policy, callers, project, play);
-            let _connection = keep.into_connection();
-            right
-        }
+        Ok(keep) => plays_on(alloc, keep, policy, callers, project, play),
         Err(error) => unmade(error),
     }
 }

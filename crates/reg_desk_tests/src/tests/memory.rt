@@ -88,7 +88,7 @@ fn scans(alloc: Global) -> Result<bool, AllocError> {
 static STEPS: [(u32, u32); 6] = [(7, 0), (8, 0), (9, 7), (10, 8), (11, 9), (12, 10)];
 
 /// Whether these are its 13 DATA rows, and those steps.
-fn has_steps(graph: &Graph) -> bool {
+pub fn has_steps(graph: &Graph) -> bool {
     graph.rows() == 13 && graph.steps() == STEPS.as_slice()
 }
 

@@ -4,7 +4,7 @@
 
 ghost use Rattle.std.specs.Prelude.{◌≡◌, false, IsTrue};
 
-mod migration;
+pub(super) mod migration;
 
 use super::bodies::{A, B};
 use super::examples::{FIRST, SECOND, UNTIL};
@@ -15,7 +15,7 @@ use migration::{looked_at_migrated, made_first, migrated};
 use reg_desk::Desk;
 use reg_policy::vectors::CALLERS;
 use reg_policy::{Callers, Name, Policy};
-use reg_store::{Keep, NoProgress};
+use reg_store::{Keep, Progress};
 use reg_tables::{AdoptError, CreateError, SqlKeep};
 use sqlite::{Alter, Connection, FileStore, Files, Options};
 use sqlite_disk::{Crash, Disk, Fuse, Memory};
@@ -32,7 +32,7 @@ enum Side {
 
 /// Where a run stopped.
 #[derive(Clone, Copy)]
-enum Stage {
+pub(super) enum Stage {
     /// The register was being made, or migrated.
     Making,
     /// The first deposit was sent.
@@ -66,9 +66,9 @@ fn options(side: Side) -> Options {
 }
 
 /// The deposits, each with the receipt of its number.
-const FIRST_SENT: Step = Step("t-delta", UNTIL, Ask::Deposit(A, UNTIL), FIRST);
+pub(super) const FIRST_SENT: Step = Step("t-delta", UNTIL, Ask::Deposit(A, UNTIL), FIRST);
 
-const SECOND_SENT: Step = Step("t-delta", UNTIL, Ask::Deposit(B, UNTIL), SECOND);
+pub(super) const SECOND_SENT: Step = Step("t-delta", UNTIL, Ask::Deposit(B, UNTIL), SECOND);
 
 const WITHDRAWN: Step = Step("t-delta", UNTIL, Ask::Withdraw(1), Want::Withdrawn(1));
 
@@ -94,7 +94,7 @@ static FAILED: [Step; 4] = [
 static AGAIN: [Step; 2] = [FIRST_SENT, SECOND_SENT];
 
 /// Both are listed.
-const BOTH: Step = Step(
+pub(super) const BOTH: Step = Step(
     "t-delta",
     UNTIL,
     Ask::List,
@@ -189,7 +189,7 @@ fn play<K: Keep>(
 
 /// What a desk does with a register.
 #[derive(Clone, Copy)]
-enum Visit {
+pub(super) enum Visit {
     /// It is new, and filled.
     Fill,
     /// It is what a stop in this stage left, and is looked at.
@@ -235,7 +235,7 @@ fn visited<K: Keep>(alloc: Global, keep: K, policy: Policy, visit: Visit) -> (Op
 }
 
 /// The same of a store in tables, over any `Alter`. `SqlKeep` is shown to be a `Keep` here alone.
-fn visited_tables<S: Alter + Drop>(
+pub(super) fn visited_tables<S: Alter + Drop>(
     alloc: Global,
     keep: SqlKeep<S>,
     visit: Visit,
@@ -299,14 +299,47 @@ fn made_anew<S: Alter + Drop>(
     }
 }
 
-/// Opens what a stop left, and looks at it: the stage, where it is as it may be.
+/// How many calls said in turn that 0 deposits, 1, and so on are checked, and how many said otherwise.
+#[derive(Clone, Copy)]
+struct Noted {
+    in_turn: u32,
+    others: u32,
+}
+
+impl Progress for Noted {
+    fn checked(&mut self, checked: u32, count: u32) {
+        if checked == self.in_turn && checked <= count {
+            self.in_turn = self.in_turn.saturating_add(1);
+        } else {
+            self.others = self.others.saturating_add(1);
+        }
+    }
+}
+
+impl Noted {
+    /// Whether it is said once before the first of so many deposits, and once after each.
+    fn is_of(self, count: u32) -> bool {
+        self.in_turn == count.saturating_add(1) && self.others == 0
+    }
+}
+
+/// Opens what a stop left, and looks at it: the stage, where it is as it may be, and each deposit that it has was said
+/// to be checked.
 fn looked_at<S: Alter + Drop>(
     alloc: Global,
     stage: Stage,
     connection: Connection<S>,
 ) -> (Option<Stage>, Connection<S>) {
-    match SqlKeep::adopt(alloc, connection, &mut NoProgress) {
-        Ok(keep) => visited_tables(alloc, keep, Visit::LookAt(stage)),
+    let mut noted = Noted {
+        in_turn: 0,
+        others: 0,
+    };
+    match SqlKeep::adopt(alloc, connection, &mut noted) {
+        Ok(keep) => {
+            let all_noted = noted.is_of(keep.count());
+            let (found, connection) = visited_tables(alloc, keep, Visit::LookAt(stage));
+            (if all_noted { found } else { None }, connection)
+        }
         Err((AdoptError::NotRegister, connection)) => made_anew(alloc, stage, connection),
         Err((_, connection)) => (None, connection),
     }

@@ -1,5 +1,7 @@
 //! A register of format 1 that is migrated, and what a desk answers over it then.
 
+ghost use Rattle.std.specs.Prelude.{◌≡◌, false};
+
 use super::{AGAIN, BOTH, Stage, UNWITHDRAWN, Visit, WITHDRAWN, visited_tables};
 use crate::tests::bodies::{A, B};
 use crate::tests::examples::UNTIL;
@@ -22,18 +24,26 @@ static AS_BEFORE: [Step; 5] = [
     UNWITHDRAWN,
 ];
 
+/// Both deposits are sent to this store, which is then made one of format 1.
+pub(crate) fn made_first_by<S: Alter + Drop>(
+    alloc: Global,
+    keep: SqlKeep<S>,
+) -> (Option<Stage>, Connection<S>)
+    requires { keep.has_failed ≡ false }
+{
+    let visit = Visit::Play(&AGAIN, Stage::Closing);
+    let (stage, mut connection) = visited_tables(alloc, keep, visit);
+    let lowered = connection.execute_batch(TO_FORMAT_1).is_ok();
+    (if lowered { stage } else { None }, connection)
+}
+
 /// A register of format 1 is made to which both deposits were sent.
 pub(super) fn made_first<S: Alter + Drop>(
     alloc: Global,
     connection: Connection<S>,
 ) -> (Option<Stage>, Connection<S>) {
     match SqlKeep::create_in(alloc, connection, MINI) {
-        Ok(keep) => {
-            let visit = Visit::Play(&AGAIN, Stage::Closing);
-            let (stage, mut connection) = visited_tables(alloc, keep, visit);
-            let lowered = connection.execute_batch(TO_FORMAT_1).is_ok();
-            (if lowered { stage } else { None }, connection)
-        }
+        Ok(keep) => made_first_by(alloc, keep),
         Err((_, connection)) => (None, connection),
     }
 }
