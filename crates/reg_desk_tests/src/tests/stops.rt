@@ -299,7 +299,7 @@ fn made_anew<S: Alter + Drop>(
     }
 }
 
-/// How many calls said in turn that 0 deposits, 1, and so on are checked, and how many said otherwise.
+/// How many calls said that 0 deposits are checked, then 1, and so on, and how many said something else.
 #[derive(Clone, Copy)]
 struct Noted {
     in_turn: u32,
