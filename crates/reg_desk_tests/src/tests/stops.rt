@@ -299,27 +299,29 @@ fn made_anew<S: Alter + Drop>(
     }
 }
 
-/// How many calls said that 0 deposits are checked, then 1, and so on, and how many said something else.
+/// How many calls said that 0 deposits are checked, then 1, and so on, of how many, and how many said something else.
 #[derive(Clone, Copy)]
 struct Noted {
-    in_turn: u32,
+    in_order: u32,
+    count: Option<u32>,
     others: u32,
 }
 
 impl Progress for Noted {
     fn checked(&mut self, checked: u32, count: u32) {
-        if checked == self.in_turn && checked <= count {
-            self.in_turn = self.in_turn.saturating_add(1);
+        if checked == self.in_order && self.count.unwrap_or(count) == count {
+            self.in_order = self.in_order.saturating_add(1);
         } else {
             self.others = self.others.saturating_add(1);
         }
+        self.count = Some(count);
     }
 }
 
 impl Noted {
     /// Whether it is said once before the first of so many deposits, and once after each.
     fn is_of(self, count: u32) -> bool {
-        self.in_turn == count.saturating_add(1) && self.others == 0
+        self.in_order == count.saturating_add(1) && self.count == Some(count) && self.others == 0
     }
 }
 
@@ -331,7 +333,8 @@ fn looked_at<S: Alter + Drop>(
     connection: Connection<S>,
 ) -> (Option<Stage>, Connection<S>) {
     let mut noted = Noted {
-        in_turn: 0,
+        in_order: 0,
+        count: None,
         others: 0,
     };
     match SqlKeep::adopt(alloc, connection, &mut noted) {

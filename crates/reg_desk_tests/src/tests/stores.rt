@@ -34,7 +34,8 @@ fn added<K: Keep>(
     }
 }
 
-/// The number of the second file; none where it has findings, or an equal deposit is held.
+/// The number of the second file; none where an equal deposit is held. Findings count as out of memory, which no test
+/// expects.
 fn second_added<K: Keep>(
     alloc: Global,
     keep: &mut K,
