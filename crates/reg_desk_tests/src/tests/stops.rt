@@ -5,6 +5,7 @@
 ghost use Rattle.std.specs.Prelude.{◌≡◌, false, IsTrue};
 
 pub(super) mod migration;
+mod noted;
 
 use super::bodies::{A, B};
 use super::examples::{FIRST, SECOND, UNTIL};
@@ -12,15 +13,15 @@ use super::policies::{WITHDRAWALS, policy_with};
 use super::{Ask, Line, Step, Want, hold, holds};
 use ags_rows::vectors::MINI;
 use migration::{looked_at_migrated, made_first, migrated};
+use noted::{Noted, copied, letter};
 use reg_desk::Desk;
 use reg_policy::vectors::CALLERS;
 use reg_policy::{Callers, Name, Policy};
-use reg_store::{Keep, Progress};
+use reg_store::Keep;
 use reg_tables::{AdoptError, CreateError, SqlKeep};
 use sqlite::{Alter, Connection, FileStore, Files, Options};
 use sqlite_disk::{Crash, Disk, Fuse, Memory};
 use std::alloc::{AllocError, Global};
-use std::io;
 use std::test::Fail;
 
 /// A file of a register.
@@ -299,32 +300,6 @@ fn made_anew<S: Alter + Drop>(
     }
 }
 
-/// How many calls said that 0 deposits are checked, then 1, and so on, of how many, and how many said something else.
-#[derive(Clone, Copy)]
-struct Noted {
-    in_order: u32,
-    count: Option<u32>,
-    others: u32,
-}
-
-impl Progress for Noted {
-    fn checked(&mut self, checked: u32, count: u32) {
-        if checked == self.in_order && self.count.unwrap_or(count) == count {
-            self.in_order = self.in_order.saturating_add(1);
-        } else {
-            self.others = self.others.saturating_add(1);
-        }
-        self.count = Some(count);
-    }
-}
-
-impl Noted {
-    /// Whether it is said once before the first of so many deposits, and once after each.
-    fn is_of(self, count: u32) -> bool {
-        self.in_order == count.saturating_add(1) && self.count == Some(count) && self.others == 0
-    }
-}
-
 /// Opens what a stop left, and looks at it: the stage, where it is as it may be, and each deposit that it has was said
 /// to be checked.
 fn looked_at<S: Alter + Drop>(
@@ -332,11 +307,7 @@ fn looked_at<S: Alter + Drop>(
     stage: Stage,
     connection: Connection<S>,
 ) -> (Option<Stage>, Connection<S>) {
-    let mut noted = Noted {
-        in_order: 0,
-        count: None,
-        others: 0,
-    };
+    let mut noted = Noted::new();
     match SqlKeep::adopt(alloc, connection, &mut noted) {
         Ok(keep) => {
             let all_noted = noted.is_of(keep.count());
@@ -431,14 +402,6 @@ fn stage_over<D: Crash + Drop>(
     }
 }
 
-/// A file in memory that has these bytes, all of them synced.
-fn copied(alloc: Global, file: &Fuse<Memory>) -> io::Result<Memory> {
-    let mut copy = Memory::new(alloc);
-    copy.write_at(0, file.inner().bytes())?;
-    copy.sync()?;
-    Ok(copy)
-}
-
 /// The files in memory over which a task begins: new ones, or those of a register of format 1 that is to be migrated.
 /// One type of file serves throughout: for each, the whole of `sqlite` is compiled anew.
 fn files_before(alloc: Global, side: Side, task: Task) -> Option<Files<Memory>> {
@@ -474,19 +437,6 @@ fn stage_of(alloc: Global, side: Side, task: Task, calls: u64) -> Option<Stage> 
     let log = Fuse::new(log, log_calls);
     let db = Fuse::new(db, database_calls);
     stage_over(alloc, side, Files { log, db }, task)
-}
-
-/// The letter of a stage, and `x` where a run left what it may not.
-fn letter(stage: Option<Stage>) -> char {
-    match stage {
-        Some(Stage::Making) => 'M',
-        Some(Stage::First) => 'F',
-        Some(Stage::Second) => 'S',
-        Some(Stage::Withdrawal) => 'W',
-        Some(Stage::Closing) => 'C',
-        Some(Stage::Ended) => '.',
-        None => 'x',
-    }
 }
 
 /// The letters of a task with ever more calls of a file, up to the first that ended or left what it may not.
