@@ -171,12 +171,12 @@ fn wrong(alloc: Global, cases: &[Case]) -> Option<&'static str> {
 #[test]
 fn headers_and_rows_are_checked(rt: HostRuntime) {
     for cases in [
-        headers::unknown(),
-        headers::orders(),
-        headers::needed(),
-        rows::keys(),
-        rows::listed(),
-        rows::links(),
+        headers::UNKNOWN,
+        headers::ORDERS,
+        headers::NEEDED,
+        rows::KEYS,
+        rows::LISTED,
+        rows::LINKS,
     ] {
         if let Some(name) = wrong(rt.alloc(), cases) {
             panic!(rt; "{name}");

@@ -186,7 +186,7 @@ fn said(alloc: Global, dictionary: &Dictionary, group: &[u8]) -> Result<Vec<u8>,
 /// A source, a group, and what is said of it.
 type Said = (Source, &'static [u8], &'static [u8]);
 
-const SAID: &[Said] = &[
+static SAID: &[Said] = &[
     (
         Source::Mini,
         b"LNMC",
@@ -241,13 +241,6 @@ const SAID: &[Said] = &[
     (Source::Extended, b"NEWG", b"///LOCA"),
 ];
 
-// A function that names a table carries it to each of its points, so functions of their own return the tables.
-
-/// What is said of groups.
-fn said_of_groups() -> &'static [Said] {
-    SAID
-}
-
 /// Whether a dictionary says what it should.
 fn is_said(alloc: Global, said_of: &Said) -> Result<bool, DictError> {
     let (source, group, want) = said_of;
@@ -257,7 +250,7 @@ fn is_said(alloc: Global, said_of: &Said) -> Result<bool, DictError> {
 
 #[test]
 fn groups(rt: HostRuntime) -> Result<(), Fail> {
-    for said_of in said_of_groups() {
+    for said_of in SAID {
         assert!(rt; is_said(rt.alloc(), said_of)?);
     }
     Ok(())
@@ -274,7 +267,7 @@ type Asked = (
     bool,
 );
 
-const ASKED: &[Asked] = &[
+static ASKED: &[Asked] = &[
     (Source::Mini, b"LNMC", b"SPEC_DPTH", Some(3), true, false),
     (Source::Mini, b"LNMC", b"LNMC_MC", Some(4), true, false),
     (Source::Mini, b"SAMP", b"LOCA_ID", Some(0), true, true),
@@ -289,11 +282,6 @@ const ASKED: &[Asked] = &[
     ),
     (Source::Extended, b"SAMP", b"LOCA_XTRA", None, true, true),
 ];
-
-/// The questions about groups and headings.
-fn questions_asked() -> &'static [Asked] {
-    ASKED
-}
 
 /// Whether a dictionary answers what it should.
 fn is_answered(alloc: Global, asked: &Asked) -> Result<bool, DictError> {
@@ -319,7 +307,7 @@ fn has_counts(
 
 #[test]
 fn questions(rt: HostRuntime) -> Result<(), Fail> {
-    for asked in questions_asked() {
+    for asked in ASKED {
         assert!(rt; is_answered(rt.alloc(), asked)?);
     }
     assert!(rt; has_counts(rt.alloc(), Source::Mini, 10, 38)?);
@@ -351,7 +339,8 @@ fn refusal(alloc: Global, source: Source) -> Result<String, AllocError> {
     }
 }
 
-const REFUSALS: &[(Source, &str)] = &[
+/// Sources, and why each is no dictionary: nothing where it is one.
+static REFUSALS: &[(Source, &str)] = &[
     (Source::File(FILE_A), "no DICT"),
     (Source::File(b""), "2 0 ;"),
     (Source::File(HEADER), "2 1 DICT;"),
@@ -377,14 +366,9 @@ const REFUSALS: &[(Source, &str)] = &[
     (Source::Replaced(b"PROJ_NAME", b"PROJ_NAM\xC3\xA9"), ""),
 ];
 
-/// Sources, and why each is no dictionary: nothing where it is one.
-fn sources() -> &'static [(Source, &'static str)] {
-    REFUSALS
-}
-
 #[test]
 fn refusals(rt: HostRuntime) -> Result<(), Fail> {
-    for (source, want) in sources() {
+    for (source, want) in REFUSALS {
         assert!(rt; refusal(rt.alloc(), *source)?.as_str() == *want);
     }
     Ok(())

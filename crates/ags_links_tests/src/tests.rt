@@ -25,7 +25,8 @@ struct Case {
 /// Two rows that lead to each other, and one that leads to them.
 const RING: &[(u32, u32)] = &[(0, 1), (1, 0), (2, 0)];
 
-const CASES: &[Case] = &[
+/// The worked examples of what is reached and of what is shown.
+static CASES: &[Case] = &[
     Case {
         what: "a ring from outside",
         shown: false,
@@ -82,13 +83,6 @@ const CASES: &[Case] = &[
     },
 ];
 
-// A function that names a table carries it to each of its points, so functions of their own return the tables.
-
-/// The worked examples of what is reached and of what is shown.
-fn cases() -> &'static [Case] {
-    CASES
-}
-
 /// Whether a case's graph is closed as wanted.
 fn closes(alloc: Global, graph: &Graph, case: &Case) -> bool {
     if case.marks.len() != graph.rows() as usize {
@@ -115,7 +109,7 @@ fn agrees(alloc: Global, case: &Case) -> bool {
 
 #[test]
 fn what_is_reached_and_shown(rt: HostRuntime) {
-    for case in cases() {
+    for case in CASES {
         assert!(rt; agrees(rt.alloc(), case), "{}", case.what);
     }
 }

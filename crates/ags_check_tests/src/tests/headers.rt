@@ -3,7 +3,7 @@
 use crate::tests::{Base, Case, Edit};
 
 /// Groups and headings that a dictionary has, and that none has.
-const UNKNOWN: &[Case] = &[
+pub static UNKNOWN: &[Case] = &[
     Case {
         name: "a file of five groups",
         file: Base::A,
@@ -82,7 +82,7 @@ const UNKNOWN: &[Case] = &[
 ];
 
 /// Headings in another's place, and those that a file defines.
-const ORDERS: &[Case] = &[
+pub static ORDERS: &[Case] = &[
     Case {
         name: "an unknown heading in place of the KEY heading",
         file: Base::A,
@@ -146,7 +146,7 @@ const ORDERS: &[Case] = &[
 ];
 
 /// Groups that a file needs, and their rows; the phases before come first.
-const NEEDED: &[Case] = &[
+pub static NEEDED: &[Case] = &[
     Case {
         name: "no group LOCA over SAMP",
         file: Base::B,
@@ -241,21 +241,3 @@ const NEEDED: &[Case] = &[
         want: "2 0 -;",
     },
 ];
-
-// A function that names a table carries it to each of its points, and a long table costs more than its parts: so tables
-// are short, and functions of their own return them.
-
-/// The cases of unknown groups and headings.
-pub fn unknown() -> &'static [Case] {
-    UNKNOWN
-}
-
-/// The cases of headings in another's place.
-pub fn orders() -> &'static [Case] {
-    ORDERS
-}
-
-/// The cases of groups that a file needs.
-pub fn needed() -> &'static [Case] {
-    NEEDED
-}

@@ -3,7 +3,7 @@
 use crate::tests::{Base, Case, Edit};
 
 /// Entries under their types, and keys.
-const KEYS: &[Case] = &[
+pub static KEYS: &[Case] = &[
     Case {
         name: "a mark, spaces, a quote in a cell and no line end at the end",
         file: Base::A,
@@ -99,7 +99,7 @@ const KEYS: &[Case] = &[
 ];
 
 /// Units, types and abbreviations, which a file lists.
-const LISTED: &[Case] = &[
+pub static LISTED: &[Case] = &[
     Case {
         name: "a unit that is not listed",
         file: Base::A,
@@ -208,7 +208,7 @@ const LISTED: &[Case] = &[
 ];
 
 /// Record links and file sets.
-const LINKS: &[Case] = &[
+pub static LINKS: &[Case] = &[
     Case {
         name: "a record link to no row",
         file: Base::C,
@@ -280,21 +280,3 @@ const LINKS: &[Case] = &[
         want: "clean",
     },
 ];
-
-// A function that names a table carries it to each of its points, and a long table costs more than its parts: so tables
-// are short, and functions of their own return them.
-
-/// The cases of entries and keys.
-pub fn keys() -> &'static [Case] {
-    KEYS
-}
-
-/// The cases of what a file lists.
-pub fn listed() -> &'static [Case] {
-    LISTED
-}
-
-/// The cases of record links and file sets.
-pub fn links() -> &'static [Case] {
-    LINKS
-}

@@ -210,7 +210,8 @@ const STEPS_OF_C: &str = "15 rows;7>0;8>0;9>7;9>11;10>8;11>7;11>9;12>7;12>9;13>9
 /// A link of two parts, the second of which names no row.
 const BROKEN: &[Edit] = &[(b"|3.00|S9\"", b"|3.00|S9+SAMP|BH1|9.00|S9\"")];
 
-const CASES: &[Case] = &[
+/// The worked examples.
+static CASES: &[Case] = &[
     Case {
         file: Base::A,
         edits: &[],
@@ -356,13 +357,6 @@ const CASES: &[Case] = &[
     },
 ];
 
-// A function that names a table carries it to each of its points, so functions of their own return the tables.
-
-/// The worked examples.
-fn cases() -> &'static [Case] {
-    CASES
-}
-
 /// Whether the answer for a case's file is the one that the case wants.
 fn agrees(alloc: Global, mini: &Dictionary, case: &Case) -> bool {
     match edited(alloc, bytes_of(case.file), case.edits) {
@@ -380,7 +374,7 @@ fn answers(alloc: Global, mini: &Dictionary, file: &[u8], ask: Ask, want: &str) 
 
 /// What the first case that is not answered as wanted should be answered by.
 fn first_wrong(alloc: Global, mini: &Dictionary) -> Option<&'static str> {
-    for case in cases() {
+    for case in CASES {
         if !agrees(alloc, mini, case) {
             return Some(case.want);
         }

@@ -3,7 +3,6 @@
 ghost use Rattle.std.specs.Prelude.{◌≡◌, ◌<◌, ◌≤◌, false, length, IsTrue, OnOk};
 
 use super::examples::{MOST, UNTIL};
-use super::memory::has_steps;
 use super::{Over, Play, plays};
 use ags_check::{Checked, check};
 use ags_rows::LIMIT;
@@ -105,7 +104,10 @@ fn has_rows<K: Keep>(keep: &mut K, n: u32) -> Result<bool, KeepError>
     Ok(rows.len() == 41 && data_count(rows.as_slice()) == 13)
 }
 
-/// Whether the deposit of that number has the steps of the second file.
+/// The steps between the DATA rows of the second file.
+static STEPS: [(u32, u32); 6] = [(7, 0), (8, 0), (9, 7), (10, 8), (11, 9), (12, 10)];
+
+/// Whether the deposit of that number has 13 DATA rows and those steps.
 fn has_its_steps<K: Keep>(keep: &mut K, n: u32) -> Result<bool, KeepError>
     requires { K.has_failed keep.old ≡ false }
     ensures { OnOk result (K.has_failed keep.new ≡ false) }
@@ -114,7 +116,7 @@ fn has_its_steps<K: Keep>(keep: &mut K, n: u32) -> Result<bool, KeepError>
         return Ok(false);
     }
     let graph = keep.steps(n)?;
-    Ok(has_steps(&graph))
+    Ok(graph.rows() == 13 && graph.steps() == STEPS.as_slice())
 }
 
 /// Whether all of that is so of the second file as deposit 1.
