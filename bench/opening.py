@@ -1,5 +1,6 @@
 #!/usr/bin/env python3
-"""Measures how long registers of several sizes take to open, and the memory of that, by `list`.
+"""Measures how long registers of several sizes take to open, and the memory of that, by `list`: under a dictionary of
+the published size, and under the sample of ten groups.
 
 usage: bench/opening.py PROGRAM [--kit KIT] [CASE..]
 A register is made by the program with one generated file; the others are that file with another name of the project,
@@ -17,6 +18,7 @@ import time
 here = os.path.dirname(os.path.abspath(__file__))
 sys.path.insert(0, here)
 sys.dont_write_bytecode = True
+import dictionaries  # noqa: E402
 import files  # noqa: E402
 import register  # noqa: E402
 from servers import asking, limit_memory  # noqa: E402
@@ -81,16 +83,16 @@ def timed(words, folder, runs):
     return best, most, run.returncode, run.stderr.decode().strip()
 
 
-def measured(program, kit, name, folder):
+def measured(program, kit, name, under, folder):
     make, size, count, runs = CASES[name]
-    place = register.Place(program, folder, limit_memory)
+    place = register.Place(program, folder, limit_memory, dictionaries.ALL[under])
     data = make(size)
     place.put("a", data)
     place.measured(*asking("deposit", "a"))
     multiplied(place.path("register"), count)
     taken, most, status, said = timed([program, *asking("list")], folder, runs)
-    cells = [name, f"{count:,}", f"{count * len(data):,}", f"{place.bytes_held():,}", f"{taken:.2f}", f"{most:.0f}",
-             f"{status} {said}".strip()]
+    cells = [name, under, f"{count:,}", f"{count * len(data):,}", f"{place.bytes_held():,}", f"{taken:.2f}",
+             f"{most:.0f}", f"{status} {said}".strip()]
     if kit:
         taken, most, status, said = timed([kit, "register"], folder, runs)
         cells += [f"{taken:.2f}", f"{most:.0f}", f"{status} {said}".strip()]
@@ -107,12 +109,13 @@ def main():
     if not words or any(name not in CASES for name in words[1:]):
         sys.exit(__doc__)
     program = os.path.abspath(words[0])
-    head = ["Register", "Deposits", "Bytes of them", "Bytes of the register", "`list`, s", "MB", "status"]
+    head = ["Register", "Dictionary", "Deposits", "Bytes of them", "Bytes of the register", "`list`, s", "MB", "status"]
     print("| " + " | ".join(head + (["kit, s", "MB", "status"] if kit else [])) + " |")
     print("|" + "---|" * (len(head) + (3 if kit else 0)))
     for name in words[1:] or ALONE:
-        with tempfile.TemporaryDirectory(dir=os.environ.get("TMPDIR", "/tmp")) as folder:
-            measured(program, kit, name, folder)
+        for under in dictionaries.ALL:
+            with tempfile.TemporaryDirectory(dir=os.environ.get("TMPDIR", "/tmp")) as folder:
+                measured(program, kit, name, under, folder)
 
 
 main()

@@ -8,6 +8,7 @@ import subprocess
 import sys
 import tempfile
 import time
+import dictionaries
 import files
 sys.path.insert(0, os.path.join(os.path.dirname(os.path.abspath(__file__)), "..", "conformance"))
 import servers  # noqa: E402
@@ -21,17 +22,17 @@ MANY = 10000
 
 
 class Place(servers.Place):
-    """A place with a new register, whose starts are measured; `limit` is for the program."""
+    """A place with a new register under a dictionary, whose starts are measured; `limit` is for the program."""
 
     patience = 3600
 
-    def __init__(self, program, folder, limit):
+    def __init__(self, program, folder, limit, dictionary=dictionaries.large):
         for name in os.listdir(folder):
             os.remove(os.path.join(folder, name))
         policy, callers = (sample(name).decode() for name in ("policy.toml", "callers.toml"))
-        super().__init__(program, folder, policy, callers, {"mini": sample("mini.ags")})
+        super().__init__(program, folder, policy, callers, {"dictionary": dictionary()})
         self.limit = limit
-        self.make()
+        self.make(dictionary="dictionary")
 
     def measured(self, *words):
         """Seconds, greatest resident memory in MB and output of a command."""
@@ -172,7 +173,7 @@ def hundred(length):
     return [deposit(text.replace(b"North bank", b"Site %02d" % n)) for n in range(100)]
 
 
-def grown(program, folder, limit, size):
+def grown(new_place, size):
     """What a deposit of 1 kB and a listing take in registers of many deposits and of large ones: each served from the
     empty register, in one run of the program."""
     print("\n| A register of | the last 100 deposits, ms each | 10 listings, ms each |\n|---|---|---|")
@@ -180,20 +181,20 @@ def grown(program, folder, limit, size):
                            (f"{MANY} of 1 kB", [deposit(small(n)) for n in range(MANY)]),
                            (f"100 of {size // 400} bytes", hundred(size // 400)),
                            (f"100 of {size // 4} bytes", hundred(size // 4))):
-        place = Place(program, folder, limit)
+        place = new_place()
         (_, added, listed), reply = place.asked(requests[:-100], requests[-100:], [LISTING] * 10)
         if reply.count(b'"number"') != len(requests):
             sys.exit(f"a listing has {reply.count(b'number')} lines, and not {len(requests)}")
         print(f"| {name} | {1000 * added / 100:.1f} | {1000 * listed / 10:.1f} |", flush=True)
 
 
-def requests_a_second(program, folder, limit):
+def requests_a_second(new_place):
     """Requests a second, a connection each, beside a plain Rust server that answers each with the last reply; before a
     listing, one that is not counted. Of requests that change nothing each is the best of some turns, of the program and
     of the plain server one after the other; deposits are asked once."""
     tools = tempfile.mkdtemp(prefix="bench")
     plain = built_plainly(tools)
-    place = Place(program, folder, limit)
+    place = new_place()
     print(f"\n| {REQUESTS} requests, a connection each | a second"
           " | of a plain Rust server that answers each with the last reply | that has each body on the disk first |\n"
           "|---|---|---|---|")
@@ -213,7 +214,7 @@ def requests_a_second(program, folder, limit):
                                    [LISTING], listed),
                                   ("the same, asked by another firm", [foreign], [foreign] * REQUESTS)):
         if name == "new":
-            place = Place(program, folder, limit)
+            place = new_place()
         (_, taken), reply = place.asked(first, requests)
         if name in ("", "new"):
             continue
@@ -231,25 +232,29 @@ def requests_a_second(program, folder, limit):
     shutil.rmtree(tools)
 
 
-def measure(program, size, limit):
+def measure(program, size, limit, dictionary):
     folder = tempfile.mkdtemp(prefix="bench")
+
+    def new_place():
+        return Place(program, folder, limit, dictionary)
+
     print("\n| File | Bytes | deposit, s | MB | list, s | MB | extract, s | MB | deposit over the socket, s"
           " | extract there, s | Register, bytes | SQLite writes the rows, s | reads them | its bytes |\n"
           + "|---" * 14 + "|")
     for make in (files.flat, files.deep, files.ring):
-        place = Place(program, folder, limit)
+        place = new_place()
         data = make(size)
         (deposited, to_deposit, _), _, (listed, to_list, _), (drawn, to_draw, text) = by_words(place, data)
         held = place.bytes_held()
         written, read, beside = by_sqlite(place)
-        posted, got = socket_times(Place(program, folder, limit), data)
+        posted, got = socket_times(new_place(), data)
         note = "" if len(text) > size // 2 else " (not whole)"
         print(f"| {make.__name__} | {len(data)} | {deposited:.2f} | {to_deposit:.1f} | {listed:.2f} | {to_list:.1f}"
               f" | {drawn:.2f}{note} | {to_draw:.1f} | {posted:.2f} | {got:.2f} | {held}"
               f" | {written:.2f} | {read:.2f} | {beside} |", flush=True)
-    requests_a_second(program, folder, limit)
-    grown(program, folder, limit, size)
-    place = Place(program, folder, limit)
+    requests_a_second(new_place)
+    grown(new_place, size)
+    place = new_place()
     text = files.deep(size // 4)
     (taken,), _ = place.asked([deposit(text.replace(b"North bank", b"Site %02d" % n)) for n in range(100)])
     opened, memory, _ = place.measured(*asking("list", project="N2"))

@@ -19,6 +19,7 @@ No start may end by a signal, 101, 134 or 139, or not within a minute. `bad_regi
 change 17 alone."""
 import collections
 import contextlib
+import datetime
 import random
 import re
 import shutil
@@ -31,6 +32,7 @@ import hostile  # noqa: E402
 import machine  # noqa: E402
 import reference  # noqa: E402
 import servers  # noqa: E402
+from machine import ags  # noqa: E402
 from servers import asking  # noqa: E402
 
 DICTIONARY_LIMIT = 67108864
@@ -70,27 +72,29 @@ def rows_of(connection, table, columns):
 
 
 class Lists:
-    """The entries of dictionaries, and the lines and the steps of bodies, each worked out once."""
+    """Dictionaries, and the lines and the steps of bodies, each worked out once."""
 
     def __init__(self):
         self.found, self.read = {}, {}
 
-    def entries(self, text):
+    def words(self, text):
+        """The dictionary that a text is, or None."""
         if text not in self.read:
             try:
-                self.read[text] = machine.read_dictionary(text)
-            except machine.Refused:
+                self.read[text] = ags.read_dictionary(text, DICTIONARY_LIMIT)[0]
+            except ags.NoDictionary:
                 self.read[text] = None
         return self.read[text]
 
-    def of(self, entries, data):
-        key = (tuple(entries), data)
+    def of(self, words, data):
+        key = (tuple(words.standard), data)
         if key not in self.found:
-            self.found[key] = None if reference.findings(data, 5, entries) else self.listed(machine.File(data, entries))
+            has_findings = reference.findings(data, 5, words.standard)
+            self.found[key] = None if has_findings else self.listed(ags.rows_of(data, words))
         return self.found[key]
 
     def listed(self, file):
-        lines = [(g.name, KINDS.index(row.descriptor), machine.line_of(row.descriptor, row.items)[:-2])
+        lines = [(g.name, KINDS.index(row.descriptor), ags.line_of([row.descriptor, *row.items]))
                  for g in file.groups
                  for row in sorted([g.heading, g.unit, g.type, *g.data, Start(g)], key=lambda row: row.line)]
         steps = sorted((child, target) for child, targets in enumerate(file.steps) for target in targets)
@@ -114,7 +118,7 @@ def version_in(tables):
 
 
 def held_by(tables, lists, number):
-    """The fault of taking these rows as a register of that format, or the dictionary's entries with the deposits."""
+    """The fault of taking these rows as a register of that format, or the dictionary with the deposits."""
     if version_in(tables) not in (None, number):
         return f"register version {version_in(tables)}"
     meta = {row[0]: row[1:] for row in tables["meta"] if row}
@@ -125,8 +129,8 @@ def held_by(tables, lists, number):
     if meta[b"format"] != (number, b"") or meta[b"dictionary"][0] != 0:
         return NOT_ONE
     text = meta[b"dictionary"][1]
-    entries = lists.entries(text) if len(text) <= DICTIONARY_LIMIT else None
-    if entries is None:
+    words = lists.words(text)
+    if words is None:
         return NOT_ONE
     deposits = sorted(tables["deposits"])
     if [row[0] for row in deposits] != list(range(1, len(deposits) + 1)):
@@ -137,17 +141,17 @@ def held_by(tables, lists, number):
         if not is_name(firm) or not is_name(project) or not 0 <= embargo <= LAST_NUMBER or len(body) > machine.LIMIT:
             return NOT_ONE
         found = tuple(sorted(row[1:] for row in tables[name] if row[0] == number) for name in ("lines", "steps"))
-        if lists.of(entries, body) != found:
+        if lists.of(words, body) != found:
             return NOT_ONE
     known, withdrawn = {row[0] for row in deposits}, {row[0] for row in tables.get("withdrawals", [])}
     if not withdrawn <= known or any(row[0] not in known for row in tables["lines"] + tables["steps"]):
         return NOT_ONE
     sent = [(row[0], machine.unmarked(row[1].decode(), row[2].decode(), day_text(row[3]), row[4])) for row in deposits]
-    return entries, [{**deposit, "withdrawn": number in withdrawn} for number, deposit in sent]
+    return words, [{**deposit, "withdrawn": number in withdrawn} for number, deposit in sent]
 
 
 def day_text(number):
-    return str(machine.datetime.date(1970, 1, 1) + machine.datetime.timedelta(number))
+    return str(datetime.date(1970, 1, 1) + datetime.timedelta(number))
 
 
 @contextlib.contextmanager
@@ -432,7 +436,7 @@ def setting_of(table, column, which):
 
 def by_hand(place, columns):
     """The same of the tables with these columns."""
-    other = machine.spelled_dictionary(reference.built_in()[:-5])
+    other = machine.spelled_dictionary(ags.built_in().standard[:-5])
     blobs = [b"", b"x", machine.FILE_A.replace(b"North bank", b"South bank"), machine.FILE_A + b" ",
              b"\xef\xbb\xbf" + machine.FILE_A, machine.FILE_A[:-1], other]
     values = {"integer": NUMBERS, "text": TEXTS, "blob": blobs}

@@ -18,6 +18,7 @@ sys.dont_write_bytecode = True
 import machine  # noqa: E402
 import reference  # noqa: E402
 import servers  # noqa: E402
+from machine import ags  # noqa: E402
 
 STATES = ["FINAL", "PRELIM", "HELD"]
 DAYS = ["2024-05-31", "2024-06-01", "2024-06-02"]
@@ -30,9 +31,8 @@ def table(name, headings, types, rows, units=None):
     """The text of a group."""
     def encoded(items):
         return [item.encode() for item in items]
-    out = machine.line_of(b"GROUP", encoded([name])) + machine.line_of(b"HEADING", encoded(headings))
-    out += machine.line_of(b"UNIT", encoded(units or [""] * len(headings))) + machine.line_of(b"TYPE", encoded(types))
-    return out + b"".join(machine.line_of(b"DATA", encoded(row)) for row in rows)
+    units = units or [""] * len(headings)
+    return ags.written([(name.encode(), encoded(headings), encoded(units), encoded(types), map(encoded, rows))])
 
 
 def names_in(chance, locations, samples):
@@ -148,10 +148,8 @@ def hidden_changed(chance, file, shown):
                 items[chance.randrange(len(items))] = chance.choice([b"x", b"BH1", b"7.50", b"", b"HELD"])
                 rows.append(chance.choice([items, row.items]))
         if rows:
-            head = [machine.line_of(b"GROUP", [g.name]), machine.line_of(b"HEADING", g.headings),
-                    machine.line_of(b"UNIT", g.unit.items), machine.line_of(b"TYPE", g.type.items)]
-            groups.append(b"".join(head + [machine.line_of(b"DATA", row) for row in rows]))
-    return b"\r\n".join(groups)
+            groups.append((g.name, g.headings, g.unit.items, g.type.items, rows))
+    return ags.written(groups)
 
 
 def held(text, deposit):
@@ -222,13 +220,14 @@ def turn(chance, counts, side):
             wrong.append("an extract with findings")
         if side.seen_of(answer[1], deposit, 'rule = [{number = 1, effect = "permit"}]', caller, day, [[]])[1] != answer:
             wrong.append("an extract of an extract")
-    file = machine.File(text, reference.built_in())
+    words = ags.built_in()
+    file = ags.rows_of(text, words)
     shown = machine.shown_rows(rules, caller, deposit, day, file)
     for _ in range(8):
         other = hidden_changed(chance, file, shown)
         if other == text or not other or reference.findings(other):
             continue
-        parts = [shown_part(rules, caller, deposit, day, f) for f in (file, machine.File(other, reference.built_in()))]
+        parts = [shown_part(rules, caller, deposit, day, f) for f in (file, ags.rows_of(other, words))]
         if parts[0] == parts[1]:
             counts["pairs"] += 1
             if side.seen_of(other, deposit, policy_text, caller, day, asked) != answers:

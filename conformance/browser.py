@@ -10,9 +10,10 @@ import urllib.request
 sys.dont_write_bytecode = True
 import servers  # noqa: E402
 
-PATIENCE = 30
+PATIENCE = 120
 ELEMENT = "element-6066-11e4-a52e-4f735466cecf"
-KEYS = {"right": "\ue014", "tab": "\ue004", "enter": "\ue007"}
+KEYS = {"left": "\ue012", "up": "\ue013", "right": "\ue014", "down": "\ue015", "tab": "\ue004", "enter": "\ue007",
+        "escape": "\ue00c"}
 
 
 class Failed(Exception):
@@ -43,6 +44,7 @@ class Browser:
                 if time.monotonic() > deadline:
                     raise
                 time.sleep(0.1)
+        self.ask("POST", "/timeouts", {"script": PATIENCE * 1000, "pageLoad": PATIENCE * 1000})
 
     def ask(self, method, path, value=None):
         data = None if value is None else json.dumps(value).encode()
@@ -84,8 +86,26 @@ class Browser:
         actions = [{"type": kind, "value": KEYS.get(key, key)} for key in keys for kind in ("keyDown", "keyUp")]
         self.ask("POST", "/actions", {"actions": [{"type": "key", "id": "keys", "actions": actions}]})
 
-    def answer_question(self, accepts):
-        self.ask("POST", "/alert/accept" if accepts else "/alert/dismiss", {})
+    def command(self, name, **values):
+        """What a command of the browser's own protocol for tools answers."""
+        return self.ask("POST", "/goog/cdp/execute", {"cmd": name, "params": values})
+
+    def seconds_of(self, act):
+        """The processor time that the page's own thread takes for something, whatever else the machine does."""
+        def taken():
+            metrics = self.command("Performance.getMetrics")["metrics"]
+            return next(each["value"] for each in metrics if each["name"] == "TaskDuration")
+        self.command("Performance.enable", timeDomain="threadTicks")
+        begun = taken()
+        act()
+        return taken() - begun
+
+    def pdf(self):
+        """What the page prints, on the paper that its styles name."""
+        return base64.b64decode(self.command("Page.printToPDF", printBackground=True, preferCSSPageSize=True)["data"])
+
+    def address(self):
+        return self.ask("GET", "/url")
 
     def text(self, selector):
         """The text that is seen of an element; nothing where there is none."""
@@ -103,9 +123,12 @@ class Browser:
         return [line["message"] for line in self.ask("POST", "/se/log", {"type": "browser"})
                 if line["level"] == "SEVERE" and "the server responded with a status" not in line["message"]]
 
-    def picture(self, path):
+    def picture(self, path, place=None):
+        """Leaves a picture of the window, or of a place of the page, at a path."""
+        data = self.command("Page.captureScreenshot", clip=place, captureBeyondViewport=True)["data"] if place \
+            else self.ask("GET", "/screenshot")
         with open(path, "wb") as file:
-            file.write(base64.b64decode(self.ask("GET", "/screenshot")))
+            file.write(base64.b64decode(data))
 
     def end(self):
         try:

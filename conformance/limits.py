@@ -24,6 +24,7 @@ sys.path.insert(0, os.path.join(os.path.dirname(os.path.abspath(__file__)), ".."
 import files  # noqa: E402
 import machine  # noqa: E402
 import servers  # noqa: E402
+from machine import ags  # noqa: E402
 from servers import DAY, asking, head, post, received, sent  # noqa: E402
 
 LIMIT = machine.LIMIT
@@ -89,7 +90,7 @@ def lengths(place):
                     ["init", "--store=none", "--dictionary=given"], refused("dictionary"))
     for name, entry in (("headings of one group", [b"HEADING", b"LOCA", b"LOCA_%d", b"OTHER", b""]),
                         ("groups", [b"GROUP", b"%d", b"", b"", b"LOCA"])):
-        line = machine.line_of(b"DATA", entry)
+        line = ags.line_of([b"DATA", *entry]) + b"\r\n"
         count = (LIMIT - len(mini)) // len(line % 100000)
         text = mini + b"".join(line % n for n in range(100000, 100000 + count))
         place.with_file(f"a dictionary of {count:,} {name}", text, ["check", "--dictionary=given", "a"], CLEAN)

@@ -1,242 +1,42 @@
 #!/usr/bin/env python3
 """The second implementation of a register, which the tests call the model: written apart from the product and straight
-from its definitions, slow, plain, nothing kept twice.
+from its definitions.
 
 It has the policy and the callers, what a caller may see of a file, the extract, the five requests with the state that
 each leaves, a request as it is read from the bytes of a connection with the bytes of its reply, the command line, and
-which formats of a register it takes. Findings are those of reference.py. It proves nothing; it is here so that the
-product's answers are computed twice.
+which formats of a register it takes. Lines, dictionaries, findings and steps are those of tools/ags, and what rules
+decide is that of tools/policies. It proves nothing; it is here so that the product's answers are computed twice.
 
 usage: machine.py       tries the worked examples below on itself; the last line is 'N passed, M failed'"""
-import datetime
+import hashlib
 import json
 import os
 import re
 import sys
-try:
-    import tomllib
-except ImportError:  # a Python before 3.11: what reads no policy and no callers does without
-    tomllib = None
 import urllib.parse
-import reference
+
+sys.path.append(os.path.join(os.path.dirname(os.path.dirname(os.path.realpath(__file__))), "tools"))
+import ags  # noqa: E402
+from policies import (DAY_KEYS, VERBS, Refused, day_of, decide, is_group_name, is_name,  # noqa: E402, F401
+                      read_callers, read_policy)
 
 # Bytes of a file, a policy, callers, a dictionary, and a body over HTTP; the scripts here take it from this place.
-LIMIT = 16_777_216
+LIMIT = ags.LIMIT
 MOST = 999999
-LAST_DAY = "9999-12-31"
 FORMAT = 2  # of a register that is made; one of format 1 has no marks
-
-
-class Refused(Exception):
-    """A text that is not read, with the reason's name."""
-
-
-# ---- names, days, policy, callers
-
-def is_name(text):
-    return isinstance(text, str) and re.fullmatch(r"[A-Za-z0-9_-]{1,32}", text) is not None
-
-
-def day_of(text):
-    """The day that a text `yyyy-mm-dd` names, from 1970-01-01 on, as that text, or None. Days compare as their
-    texts."""
-    if not isinstance(text, str) or not re.fullmatch(r"[0-9]{4}-[0-9]{2}-[0-9]{2}", text) or text < "1970-01-01":
-        return None
-    try:
-        datetime.date.fromisoformat(text)
-    except ValueError:
-        return None
-    return text
-
-
-def document(text):
-    """The table that a TOML text is."""
-    try:
-        table = tomllib.loads(text)
-    except (tomllib.TOMLDecodeError, RecursionError):
-        raise Refused("Syntax") from None
-    stack = [table]
-    while stack:
-        value = stack.pop()
-        if isinstance(value, int) and not -(2**63) <= value < 2**63:
-            raise Refused("Syntax")
-        stack += value.values() if isinstance(value, dict) else value if isinstance(value, list) else []
-    return table
-
-
-def tables_under(table, key, known):
-    """The tables of the array under the one key that a document may have; unknown keys are looked for before anything
-    else."""
-    items = table.get(key, [])
-    inner = [item for item in items if isinstance(item, dict)] if isinstance(items, list) else []
-    if any(k != key for k in table) or any(k not in known for item in inner for k in item):
-        raise Refused("UnknownKey")
-    if not isinstance(items, list) or len(inner) != len(items):
-        raise Refused("BadValue")
-    return items
-
-
-def is_group_name(text):
-    return isinstance(text, str) and re.fullmatch(r"[A-Z0-9]{1,4}", text) is not None
-
-
-def is_one_of(*words):
-    return lambda text: isinstance(text, str) and text in words
-
-
-VERBS = ("deposit", "check", "list", "extract", "withdraw", "see")
-RULE_VALUES = {
-    "firm": is_name, "role": is_name, "project": is_name, "group": is_group_name,
-    "verb": is_one_of(*VERBS),
-    "owner": is_one_of("own", "other"), "embargo": is_one_of("past", "running"),
-}
-DAY_KEYS = ("from", "until")
-
-
-def read_policy(text):
-    """The rules of a policy, each with the keys that it sets."""
-    items = tables_under(document(text), "rule", {"number", "effect", "heading", "value", *DAY_KEYS, *RULE_VALUES})
-    rules = []
-    for item in items:
-        number = item.get("number")
-        if isinstance(number, bool) or not isinstance(number, int) or not 1 <= number <= 9999:
-            raise Refused("BadValue")
-        if item.get("effect") not in ("permit", "deny"):
-            raise Refused("BadValue")
-        for key, is_value in RULE_VALUES.items():
-            if key in item and item[key] != "*" and not is_value(item[key]):
-                raise Refused("BadValue")
-        days = [item[key] for key in DAY_KEYS if key in item]
-        if not all(map(day_of, days)) or days != sorted(days):
-            raise Refused("BadValue")
-        if ("heading" in item) != ("value" in item):
-            raise Refused("BadValue")
-        if "heading" in item and not (isinstance(item["heading"], str)
-                                      and re.fullmatch(r"[A-Z0-9_]{1,9}", item["heading"])
-                                      and isinstance(item["value"], str)):
-            raise Refused("BadValue")
-        rules.append({k: v for k, v in item.items() if k in ("number", "effect", "heading", "value") or v != "*"})
-    if any(b["number"] <= a["number"] for a, b in zip(rules, rules[1:])):
-        raise Refused("Order")
-    return rules
-
-
-def matches(rule, caller, project, verb, day, row):
-    """Whether a rule matches on the day of the request; row is None for a request, else what is known of a row."""
-    if day < rule.get("from", day) or day > rule.get("until", day):
-        return False
-    asked = {"firm": caller["firm"], "role": caller["role"], "project": project, "verb": verb}
-    if any(key in rule and rule[key] != value for key, value in asked.items()):
-        return False
-    sets = [key for key in ("group", "owner", "embargo", "heading") if key in rule]
-    if sets and row is None:
-        return False
-    if "group" in rule and rule["group"].encode() != row["group"]:
-        return False
-    if "owner" in rule and (rule["owner"] == "own") != row["own"]:
-        return False
-    if "embargo" in rule and (rule["embargo"] == "past") != row["past"]:
-        return False
-    if "heading" in rule:
-        want = (rule["heading"].encode(), rule["value"].encode())
-        return want in zip(row["headings"], row["cells"])
-    return True
-
-
-def decide(rules, caller, project, verb, day, row=None):
-    """("permit", n) or ("deny", n) of the first rule that matches; ("deny", 0) where none does."""
-    for rule in rules:
-        if matches(rule, caller, project, verb, day, row):
-            return rule["effect"], rule["number"]
-    return "deny", 0
-
-
-def read_callers(text):
-    """The callers, by token."""
-    items = tables_under(document(text), "caller", {"token", "firm", "role"})
-    for item in items:
-        token = item.get("token")
-        if not (isinstance(token, str) and re.fullmatch(r"[!-~]{1,64}", token) and is_name(item.get("firm"))
-                and is_name(item.get("role"))):
-            raise Refused("BadValue")
-    tokens = [item["token"] for item in items]
-    if len(set(tokens)) != len(tokens):
-        raise Refused("DuplicateToken")
-    return {item["token"]: {"firm": item["firm"], "role": item["role"]} for item in items}
-
-
-def read_dictionary(data):
-    """The entries of a dictionary, which is read without Rules 1 and 2a."""
-    found, rows = reference.first_phase(reference.lines_of(data), True)
-    found = found or reference.second_phase(rows)
-    groups = [] if found else reference.cut(rows)
-    found = found or reference.third_phase(groups)
-    if found:
-        raise Refused("NotDictionary")
-    own = [g for g in groups if g.name == b"DICT"]
-    if not own:
-        raise Refused("NoDict")
-    if not {b"DICT_TYPE", b"DICT_GRP", b"DICT_HDNG", b"DICT_STAT", b"DICT_PGRP"} <= set(own[0].headings):
-        raise Refused("MissingHeading")
-    return reference.own_entries(groups)
-
-
-def line_of(descriptor, fields):
-    return b",".join(b'"' + field.replace(b'"', b'""') + b'"' for field in [descriptor, *fields]) + b"\r\n"
 
 
 def spelled_dictionary(entries):
     """The text of a dictionary of these entries: one group DICT, as it is written."""
     rows = [[b"GROUP", e[1], b"", b"", e[2]] if e[0] == "G" else [b"HEADING", *e[1:4], b""] for e in entries]
     headings = [b"DICT_TYPE", b"DICT_GRP", b"DICT_HDNG", b"DICT_STAT", b"DICT_PGRP"]
-    head = line_of(b"GROUP", [b"DICT"]) + line_of(b"HEADING", headings)
-    head += line_of(b"UNIT", [b""] * 5) + line_of(b"TYPE", [b"X"] * 5)
-    return head + b"".join(line_of(b"DATA", row) for row in rows)
+    return ags.written([(b"DICT", headings, [b""] * 5, [b"X"] * 5, rows)])
 
 
 # ---- what a caller may see of a file
 
-class File:
-    """A file without findings: its groups, its DATA rows numbered from 0, and the steps between them."""
-
-    def __init__(self, data, standard):
-        _, rows = reference.first_phase(reference.lines_of(data), False)
-        self.groups = reference.cut(rows)
-        self.words = reference.Dictionary(reference.extended(standard, reference.own_entries(self.groups)))
-        self.rows = [(g, row) for g in self.groups for row in g.data]
-        self.delimiter, self.concatenator = reference.separators(self.groups)
-        self.steps = [[n for n, (_, s) in enumerate(self.rows) if any(s is t for t in self.targets(g, row))]
-                      for g, row in self.rows]
-
-    def targets(self, g, row):
-        """The rows that a row has a step to."""
-        found = list(reference.parent_rows(g, row, self.groups, self.words))
-        if g.name in reference.DEFINITIONS:
-            return found
-        for heading, kind in zip(g.headings, g.type.items):
-            if kind == b"RL" and g.under(row, heading):
-                for part in g.under(row, heading).split(self.concatenator):
-                    pieces = part.split(self.delimiter)
-                    found += [s for h, s in self.rows if pieces[0] == h.name
-                              and pieces[1:] == reference.key(h, s, self.words)]
-        set_of = g.under(row, b"FILE_FSET")
-        if g.name != b"FILE" and set_of:
-            found += [s for h, s in self.rows if h.name == b"FILE" and h.under(s, b"FILE_FSET") == set_of]
-        return found
-
-    def reach(self, n):
-        """The numbers of the rows that row n reaches, itself included."""
-        seen, work = {n}, [n]
-        while work:
-            for m in self.steps[work.pop()]:
-                if m not in seen:
-                    seen.add(m)
-                    work.append(m)
-        return seen
-
-
 def is_permitted(rules, caller, deposit, day, g, row):
-    if g.name in reference.DEFINITIONS:
+    if g.name in ags.DEFINITIONS:
         return True
     facts = {"group": g.name, "own": deposit["firm"] == caller["firm"], "past": day >= deposit["embargo"],
              "headings": g.headings, "cells": row.items}
@@ -254,15 +54,13 @@ def extract_text(file, shown, groups):
     asked."""
     asked = {n for n, (g, _) in enumerate(file.rows) if not groups or g.name in groups or g.name == b"PROJ"}
     drawn = {m for n in asked & shown for m in file.reach(n)}
-    texts = []
+    parts = []
     for g in file.groups:
-        rows = [row for n, (h, row) in enumerate(file.rows) if h is g
-                and (g.name in reference.DEFINITIONS or n in drawn)]
+        rows = [row.items for n, (h, row) in enumerate(file.rows) if h is g
+                and (g.name in ags.DEFINITIONS or n in drawn)]
         if rows:
-            head = line_of(b"GROUP", [g.name]) + line_of(b"HEADING", g.headings)
-            head += line_of(b"UNIT", g.unit.items) + line_of(b"TYPE", g.type.items)
-            texts.append(head + b"".join(line_of(b"DATA", row.items) for row in rows))
-    return b"\r\n".join(texts)
+            parts.append((g.name, g.headings, g.unit.items, g.type.items, rows))
+    return ags.written(parts)
 
 
 # ---- requests and the state
@@ -273,11 +71,11 @@ def unmarked(firm, project, embargo, data):
 
 
 class Register:
-    """The deposits that are held, each with its mark, under a dictionary's entries, and at most so many.
+    """The deposits that are held, each with its mark, under a dictionary, and at most so many.
     In a register of format 1 no deposit is marked."""
 
-    def __init__(self, standard=None, most=MOST):
-        self.standard = reference.built_in() if standard is None else standard
+    def __init__(self, words=None, most=MOST):
+        self.words = words or ags.built_in()
         self.most = most
         self.format = FORMAT
         self.deposits = []
@@ -285,7 +83,7 @@ class Register:
 
     def file_of(self, data):
         if data not in self.files:
-            self.files[data] = File(data, self.standard)
+            self.files[data] = ags.rows_of(data, self.words)
         return self.files[data]
 
     def is_seen(self, rules, caller, deposit, day):
@@ -297,7 +95,7 @@ class Register:
     def checked(self, data):
         if len(data) > LIMIT:
             return ("too large",)
-        found = reference.findings(data, 5, self.standard)
+        _, found = ags.first_findings(ags.File(data), self.words)
         return ("findings", found) if found else None
 
     def deposit(self, rules, caller, project, embargo, data, day):
@@ -443,9 +241,7 @@ def reply(answer):
     if kind == "denied":
         return as_json(403, {"denied": answer[1]})
     if kind == "findings":
-        def subject(text):
-            return "".join("?" if b < 32 or b > 126 else chr(b) for b in text)
-        return as_json(422, {"findings": [{"code": code, "line": line, "subject": subject(text)}
+        return as_json(422, {"findings": [{"code": code, "line": line, "subject": ags.shown(text)}
                                           for line, code, text in answer[1]]})
     return error({"unknown": 404, "too large": 413, "full": 507}[kind], kind)
 
@@ -506,25 +302,66 @@ def serve(register, rules, callers, day, data):
 
 
 def logged(callers, data, status, text):
-    """What the log of `serve` has of a connection: who asked what, the status, and the bytes of the reply."""
+    """What the log of `serve` has of a connection: who asked what and the status; the bytes of the reply; number,
+    groups, the rule that denied, and the token's shadow."""
     head = head_of(data)
     if head is None:
-        return f"- - - - {status}", len(text)
+        return f"- - - - {status}", len(text), "- - - -"
     method, target, fields, _ = head
-    caller = callers.get(token_in(fields), {"firm": "-", "role": "-"})
-    path = "".join(chr(b) if 32 < b < 127 and b != 92 else f"\\x{b:02x}" for b in target.partition(b"?")[0])
-    return f"{caller['firm']} {caller['role']} {method.decode()} {path} {status}", len(text)
+    token = token_in(fields)
+    caller = callers.get(token, {"firm": "-", "role": "-"})
+    path = "".join(chr(b) if 32 < b < 127 and b != 92 else f"\\x{b:02x}" for b in target.partition(b"?")[0][:256])
+    front = f"{caller['firm']} {caller['role']} {method.decode()} {path} {status}"
+    number, groups, rule = asked_of(method, target, text)
+    shadow = hashlib.sha256(token.encode()).hexdigest()[:8] if token in callers else "-"
+    return front, len(text), f"{number} {groups} {rule} {shadow}"
+
+
+# The replies by which the desk has not been asked.
+OF_THE_ENGINE = ("bad head", "no route", "method", "no caller", "length required", "bad length", "too large",
+                 "bad parameter", "short body")
+
+
+def asked_of(method, target, text):
+    """Number, groups and rule of a request, by its reply: `-` for each where the desk was not asked."""
+    body = text.partition(b"\r\n\r\n")[2]
+    if not text or any(body == b'{"error":"%s"}' % refusal.encode() for refusal in OF_THE_ENGINE):
+        return "-", "-", "-"
+    path, _, query = target.partition(b"?")
+    number = path.rpartition(b"/")[2].decode() if re.search(rb"/deposits/[^/]+$", path) else "-"
+    groups = "-"
+    if method == b"GET" and number != "-":
+        groups = b",".join(groups_in(dict(pairs_of(query)).get("groups", "")) or []).decode() or "-"
+    receipt = re.fullmatch(rb'\{"embargo":"[-0-9]+","number":(\d+)\}', body)
+    denied = re.fullmatch(rb'\{"denied":(\d+)\}', body)
+    return receipt[1].decode() if receipt else number, groups, denied[1].decode() if denied else "-"
 
 
 # ---- the command line
 
-ASKING = "store policy callers token project day progress"
+ASKING = "store policy callers token token-file project day progress"
 OPTIONS = {"init": "store dictionary", "check": "dictionary", "deposit": ASKING + " embargo",
            "extract": ASKING + " groups", "list": ASKING, "withdraw": ASKING, "migrate": "store progress",
-           "serve": "store policy callers port connections day day-by-clock patience end-on-failure log progress"}
-FLAGS = {"day-by-clock", "end-on-failure", "progress"}
-MAY_LACK = {"day", "embargo", "groups", "patience", "log", *FLAGS}
-PLACES = {"init": 0, "check": 1, "deposit": 1, "extract": 1, "list": 0, "withdraw": 1, "migrate": 0, "serve": 0}
+           "verify": "store log progress", "version": "",
+           "serve": "store policy callers port socket connections unending day day-by-clock patience end-on-failure log "
+                    "reload progress"}
+FLAGS = {"day-by-clock", "end-on-failure", "progress", "unending"}
+# Options of which one has to be given, and not both.
+ONE_OF = (("token", "token-file"), ("port", "socket"), ("connections", "unending"))
+MAY_LACK = {"day", "embargo", "groups", "patience", "log", "reload", *FLAGS, *(name for pair in ONE_OF for name in pair)}
+PLACES = {"init": 0, "check": 1, "deposit": 1, "extract": 1, "list": 0, "withdraw": 1, "migrate": 0, "serve": 0,
+          "verify": 0, "version": 0}
+
+
+def version():
+    """What `version` prints: the newest version of CHANGELOG.md, and the format."""
+    folder = os.path.dirname(os.path.abspath(__file__))
+    with open(os.path.join(folder, "..", "CHANGELOG.md"), encoding="utf-8") as file:
+        newest = re.search(r"^## (\S+)", file.read(), re.M)[1]
+    return f"groundreg {newest}\nregister format {FORMAT}\n".encode()
+
+
+VERSION = version()
 
 
 class Fault(Exception):
@@ -571,6 +408,9 @@ def words_of(words):
             raise Fault("words refused", 4)
     if "day" in options and "day-by-clock" in options:
         raise Fault("words refused", 4)
+    for one, other in ONE_OF:
+        if one in OPTIONS[command].split() and (one in options) == (other in options):
+            raise Fault("words refused", 4)
     return command, options, places
 
 
@@ -588,7 +428,7 @@ def printed(answer):
     if kind == "denied":
         return f"denied {answer[1]}\n".encode(), 2
     if kind == "findings":
-        return "".join(line + "\n" for line in reference.printed(answer[1])).encode(), 1
+        return "".join(finding.printed() + "\n" for finding in answer[1]).encode(), 1
     return (kind + "\n").encode(), {"clean": 0, "unknown": 3, "too large": 4, "full": 5}[kind]
 
 
@@ -614,11 +454,16 @@ class Computer:
     def dictionary(self, path):
         data = self.read(path)
         try:
-            if len(data) > LIMIT:
-                raise Refused("too large")
-            return read_dictionary(data)
-        except Refused:
+            return ags.read_dictionary(data)[0]
+        except ags.NoDictionary:
             raise Fault("dictionary refused", 4) from None
+
+    def token(self, options):
+        """The token that is given, or that of a file, without one line end after it."""
+        if "token" in options:
+            return options["token"]
+        text = self.read(options["token-file"]).decode("latin-1")
+        return text[:-2] if text.endswith("\r\n") else text.removesuffix("\n")
 
     def can_open(self, path):
         """Whether a database may be opened there: the path is no folder and is in one."""
@@ -673,21 +518,26 @@ class Computer:
             return self.check(standard_input, None)
         command, options, places = words_of(words)
         if command == "init":
-            standard = self.dictionary(options["dictionary"])
+            dictionary = self.dictionary(options["dictionary"])
             found = self.files.get(options["store"])
             if found or not self.can_open(options["store"]):
                 is_database = isinstance(found, (Register, Damaged))
                 raise Fault("store not empty", 4) if is_database else Fault("store failed", 5)
-            self.files[options["store"]] = Register(standard)
+            self.files[options["store"]] = Register(dictionary)
             return b"created\n", 0
         if command == "check":
             return self.check(None, (options["dictionary"], places[0]))
         if command == "migrate":
             self.store(options["store"], 1).format = FORMAT
             return b"migrated\n", 0
+        if command == "version":
+            return VERSION, 0
+        if command == "verify":
+            return b"verified %d\n" % len(self.store(options["store"]).deposits), 0
         rules = self.text(options["policy"], "policy", read_policy)
         callers = self.text(options["callers"], "callers", read_callers)
-        if options["token"] not in callers:
+        token = self.token(options)
+        if token not in callers:
             raise Fault("token refused", 4)
         if not is_name(options["project"]):
             raise Fault("project refused", 4)
@@ -702,7 +552,7 @@ class Computer:
         if has_number and number is None:
             raise Fault("number refused", 4)
         body = self.read(places[0]) if command == "deposit" else None
-        register, caller, project = self.store(options["store"]), callers[options["token"]], options["project"]
+        register, caller, project = self.store(options["store"]), callers[token], options["project"]
         if command == "deposit":
             return printed(register.deposit(rules, caller, project, embargo, body, day))
         if command == "list":
@@ -712,13 +562,13 @@ class Computer:
         return printed(register.extract(rules, caller, project, number, groups, day))
 
     def check(self, data, places):
-        standard = None
+        dictionary = None
         if places is not None:
-            standard = self.dictionary(places[0])
+            dictionary = self.dictionary(places[0])
             data = self.read(places[1])
         if len(data) > LIMIT:
             raise Fault("too large", 4)
-        return printed(Register(standard).checked(data) or ("clean",))
+        return printed(Register(dictionary).checked(data) or ("clean",))
 
 
 # ---- worked examples
@@ -907,6 +757,8 @@ def refusal(read, text):
         read(text)
     except Refused as reason:
         return str(reason)
+    except ags.NoDictionary as reason:
+        return reason.name
     return "read"
 
 
@@ -1001,7 +853,7 @@ def examples():
         yield f"policy: {name}", refusal(read_policy, text), want
     twice = CALLERS.replace("t-gamma", "t-delta")
     yield "a token twice", refusal(read_callers, twice), "DuplicateToken"
-    yield "A as a dictionary", refusal(read_dictionary, FILE_A), "NoDict"
+    yield "A as a dictionary", refusal(ags.read_dictionary, FILE_A), "NoDict"
 
     def ask(register, data, day=SENT):
         status, text = serve(register, rules, by, day, data)
@@ -1149,7 +1001,7 @@ def deletions(by):
 def runs():
     """The same of the command line."""
     computer, today = Computer(), "2024-05-01"
-    mini = spelled_dictionary(reference.built_in())
+    mini = spelled_dictionary(ags.built_in().standard)
     computer.files = {"mini": mini, "a": FILE_A, "q": POLICY.encode(), "c": CALLERS.encode(), "empty": b"",
                       "junk": b"junk"}
     with_token = ["--store", "s", "--policy", "q", "--callers", "c", "--project", "N1", "--token"]

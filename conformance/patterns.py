@@ -6,7 +6,6 @@ import collections
 import copy
 import os
 import re
-import sqlite3
 import subprocess
 import sys
 import tomllib
@@ -17,6 +16,7 @@ import servers
 
 home = os.path.dirname(os.path.dirname(os.path.realpath(__file__)))
 sys.path.append(os.path.join(home, "tools"))
+import ags  # noqa: E402
 import lines  # noqa: E402
 import policies  # noqa: E402
 
@@ -69,11 +69,11 @@ def parts(page):
     return deposits, patterns
 
 
-def register_of(deposits, standard=None):
-    register = machine.Register(standard)
+def register_of(deposits, words=None):
+    register = machine.Register(words)
     for one in deposits:
         data = read(one["File"], "rb")
-        assert not reference.findings(data, 5, register.standard)
+        assert not reference.findings(data, 5, register.words.standard)
         register.deposits.append(machine.unmarked(one["Firm"], one["Project"], one["Embargo"], data))
     return register
 
@@ -88,7 +88,7 @@ def drawn_rows(text):
     """The DATA rows of an extract, by group."""
     rows, headings = {}, []
     for line in text.split(b"\r\n"):
-        items = reference.fields_of(line) if line else [b""]
+        items = ags.fields_of(line) if line else [b""]
         if items[0] == b"GROUP":
             name = items[1]
         elif items[0] == b"HEADING":
@@ -123,7 +123,7 @@ def model_cases():
     """Each cell of the page's tables beside the model's answer."""
     deposits, patterns = parts(read("docs/POLICY.md"))
     register, people, office = register_of(deposits), callers(), machine.read_callers(read(CALLERS))
-    words = reference.Dictionary([(entry, False) for entry in reference.built_in()])
+    words = ags.built_in()
     for pattern in patterns:
         rules = machine.read_policy(pattern.policy)
         yield f"{pattern.name}: a table below the block", bool(pattern.rows), True
@@ -137,7 +137,7 @@ def model_cases():
 
 
 def program_cases(program, folder):
-    """Each extract of the tables as the program draws it, beside the model's; the steps that OPERATING counts."""
+    """Each extract of the tables as the program draws it, beside the model's."""
     deposits, patterns = parts(read("docs/POLICY.md"))
     register, people = register_of(deposits), callers()
     built = bodies.Program(program, folder)
@@ -164,28 +164,13 @@ def program_cases(program, folder):
                 want = (0, f"withdrawn {number}\n") if row["withdraw"] == "yes" else (
                     STATUSES[row["withdraw"].split(" ")[0]], row["withdraw"] + "\n")
                 yield f"the program's withdrawal: {pattern.name}: {row}", (status, out.decode()), want
-    yield "steps of each deposit", steps_by_deposit(built.path("empty")), steps_of(register)
-
-
-def steps_by_deposit(path):
-    """What the line of OPERATING finds in a register."""
-    line = re.search(r'^\$ sqlite3 site\.register "(SELECT deposit, .*)"$', read("docs/OPERATING.md"), re.MULTILINE)[1]
-    connection = sqlite3.connect(path)
-    found = connection.execute(line).fetchall()
-    connection.close()
-    return sorted(found)
-
-
-def steps_of(register):
-    files = [machine.File(one["bytes"], register.standard) for one in register.deposits]
-    return [(n, sum(map(len, file.steps)), len(file.rows)) for n, file in enumerate(files, 1)]
 
 
 def claims():
     """What the page says hides and does not, where no table of it shows that."""
     deposits, patterns = parts(read("docs/POLICY.md"))
     people, policy = callers(), {pattern.name: machine.read_policy(pattern.policy) for pattern in reversed(patterns)}
-    register, full = register_of(deposits), register_of(deposits, reference.built_in() + GEOL)
+    register, full = register_of(deposits), register_of(deposits, ags.Dictionary(ags.built_in().standard + GEOL))
     echo, third = people["Echo"], {"Deposit": "3"}
     yield "a dictionary that has the group", cell(full, policy[FINAL], echo, third, "GEOL"), "BH7"
     no_files = machine.read_policy(NO_FILES + ALL.replace("1", "2"))
@@ -196,16 +181,16 @@ def claims():
         for column in ("deposit", "check", "list", "LOCA"):
             got, want = (cell(register, rules, people[firm], row, column) for rules in (policy[ONE], empty))
             yield f"{firm} without a part, as by the empty register: {column}", got, want
-    yield from placed(None)
+    yield from placed()
     yield from deposited(policy[OWNER], people["Delta"], people["Harbour"])
 
 
-def placed(standard):
+def placed():
     """Where the pattern for a consultant is in samples/policy.toml: what an embargo and a hidden sample still hide."""
     block = "".join(block for _, block, _, _, _ in PARTS.findall(read("docs/POLICY.md")) if 'value = "FINAL"' in block
                     and 'role = "consultant"' in block)
     data = read("samples/office/statuses.ags", "rb").replace(b'"S1"', b'"S9"')
-    register = machine.Register(standard)
+    register = machine.Register()
     register.deposits.append(machine.unmarked("Delta", "N1", "2024-06-01", data))
     echo = {"firm": "Echo", "role": "consultant"}
     for first, early, samples in ((51, "BH1", "S9"), (71, "unknown", "S9"), (76, "unknown", "no row")):

@@ -402,6 +402,34 @@ def fifth_phase(groups, words):
     return found
 
 
+def steps(data, standard=None):
+    """For each DATA row of a file without findings the numbers of the rows that it belongs to or links to, rising;
+    rows are numbered from 0."""
+    _, rows = first_phase(lines_of(data), False)
+    groups = cut(rows)
+    words = Dictionary(extended(built_in() if standard is None else standard, own_entries(groups)))
+    numbered = [(g, row) for g in groups for row in g.data]
+    targets = [targets_of(g, row, groups, words) for g, row in numbered]
+    return [[n for n, (_, s) in enumerate(numbered) if any(s is t for t in found)] for found in targets]
+
+
+def targets_of(g, row, groups, words):
+    """The rows that a row has a step to."""
+    found = parent_rows(g, row, groups, words)
+    if g.name in DEFINITIONS:
+        return found
+    delimiter, concatenator = separators(groups)
+    for heading, kind in zip(g.headings, g.type.items):
+        if kind == b"RL" and g.under(row, heading):
+            for part in g.under(row, heading).split(concatenator):
+                pieces = part.split(delimiter)
+                found += [s for h in groups for s in h.data if pieces[0] == h.name and pieces[1:] == key(h, s, words)]
+    files = g.under(row, b"FILE_FSET")
+    if g.name != b"FILE" and files:
+        found += [s for h in groups if h.name == b"FILE" for s in h.data if h.under(s, b"FILE_FSET") == files]
+    return found
+
+
 def findings(data, phases=5, standard=None):
     """All findings of the first of the phases that has any, in order, under the entries of a standard dictionary (the
     built-in one)."""

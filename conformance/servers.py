@@ -16,15 +16,17 @@ import sys
 import time
 sys.dont_write_bytecode = True
 import machine  # noqa: E402
-import reference  # noqa: E402
+from machine import ags  # noqa: E402
 
 PATIENCE = 300
 MEMORY = 4 << 30
 DAY = "2024-06-01"
 SAMPLES = os.path.join(os.path.dirname(os.path.abspath(__file__)), "..", "samples")
-NAME = "register.example.org"
+sys.path.append(SAMPLES)
+import nginx_site  # noqa: E402
+NAME, certificate_in = nginx_site.NAME, nginx_site.certificate_in
 # The small dictionary, and files without findings under it.
-FILES = {"mini": machine.spelled_dictionary(reference.built_in()), "a": machine.FILE_A, "b": machine.FILE_B,
+FILES = {"mini": machine.spelled_dictionary(ags.built_in().standard), "a": machine.FILE_A, "b": machine.FILE_B,
          "c": machine.file_c()}
 # What makes a register of format 1 of one of format 2.
 TO_FORMAT_1 = ["DROP TABLE withdrawals", "UPDATE meta SET num = 1 WHERE name = 'format'"]
@@ -133,10 +135,12 @@ class Server:
 
     listening = b""
 
-    def __init__(self, place, connections, *words, store="register", day=DAY, **more):
-        self.place, self.port = place, free_port()
+    def __init__(self, place, connections, *words, store="register", day=DAY, at=None, **more):
+        """`connections` is None where there is no end to them; `at` is the path of a Unix socket."""
+        self.place, self.port, self.at = place, free_port(), at
         self.process = place.start("serve", f"--store={store}", "--policy=policy", "--callers=callers",
-                                   f"--port={self.port}", f"--connections={connections}",
+                                   f"--socket={at}" if at else f"--port={self.port}",
+                                   f"--connections={connections}" if connections else "--unending",
                                    *([f"--day={day}"] if day else []), *words, **more)
 
     def __enter__(self):
@@ -146,6 +150,8 @@ class Server:
         self.stop()
 
     def connect(self, receives=None):
+        if self.at:
+            return connection_at(self.place.path(self.at), self.place.patience)
         return connection_to(self.port, self.place.patience, receives)
 
     def ask(self, data, is_ended=True):
@@ -225,13 +231,23 @@ def free_port():
                 pass
 
 
-def connection_to(port, seconds, receives=None):
+def connection_to(port, seconds, receives=None, source=None):
     """A connection with this patience, and with room for so many bytes that nobody has read yet."""
     connection = socket.socket()
     connection.settimeout(seconds)
+    if source:
+        connection.bind((source, 0))
     if receives:
         connection.setsockopt(socket.SOL_SOCKET, socket.SO_RCVBUF, receives)
     connection.connect(("127.0.0.1", port))
+    return connection
+
+
+def connection_at(path, seconds):
+    """A connection to a Unix socket with this patience."""
+    connection = socket.socket(socket.AF_UNIX)
+    connection.settimeout(seconds)
+    connection.connect(path)
     return connection
 
 
@@ -274,60 +290,54 @@ def reset(connection):
 
 # ---- nginx
 
+# What the site limits, without limits: a test asks more often than people do.
+WITHOUT_LIMITS = [("rate=20r/s", "rate=1000000r/s"), ("rate=50r/s", "rate=1000000r/s"),
+                  ("rate=2r/s", "rate=1000000r/s"),
+                  ("limit_conn_status 429;\n    limit_conn connections_of_address 20;\n", "limit_conn_status 429;\n"),
+                  ("        limit_conn connections_of_address 20;\n        limit_conn connections_of_project 50;\n", "")]
+
+
+def address_of(place):
+    """What the site passes requests to: a port of loopback, or the path of a socket."""
+    return f"http://127.0.0.1:{place}" if str(place).isdigit() else f"http://unix:{place}"
+
+
 class Site:
     """nginx with the sample site, on a port of loopback: with a certificate of the moment, this text as the map of
-    projects (None: no map), and a register for all others. `changes` are pairs: a text that the site has once, and
-    what is there instead."""
+    projects (None: no map), and the port or socket of a register for all others. `changes` are pairs: a text that the
+    site has once, and what is there instead. The site's limits are left out but where `limits` is set."""
 
-    def __init__(self, folder, projects, other, certificate, changes=(), workers=0):
-        self.folder, self.port, self.certificate = folder, free_port(), certificate
+    def __init__(self, folder, projects, other, certificate, changes=(), workers=0, limits=False):
+        self.folder, self.port, self.plain, self.certificate = folder, free_port(), free_port(), certificate
         os.makedirs(folder, exist_ok=True)
         if projects is not None:
             with open(os.path.join(folder, "projects.map"), "w", encoding="utf-8") as file:
                 file.write(projects)
-        self.configure(other, changes, workers)
-        self.process = subprocess.Popen(["nginx", "-p", folder, "-c", f"{folder}/nginx.conf"],
-                                        stderr=subprocess.DEVNULL)
+        self.configure(other, [*changes, *([] if limits else WITHOUT_LIMITS)], workers)
+        self.process = subprocess.Popen(nginx_site.command(folder), stderr=subprocess.DEVNULL)
         wait_for(self.port)
 
     def configure(self, other, changes, workers):
         """Writes the site and nginx's own configuration, which includes it."""
-        text = sample("nginx/groundreg.conf").decode()
-        for old, new in [("/etc/groundreg/projects.ma[p]", f"{self.folder}/projects.ma[p]"),
-                         ("/etc/ssl/register.crt;", f"{self.certificate}.crt;"),
-                         ("/etc/ssl/register.key;", f"{self.certificate}.key;"),
-                         ("/etc/ssl/certs/ca-certificates.crt", f"{self.certificate}.crt"),
-                         ("listen 443 ssl;", f"listen 127.0.0.1:{self.port} ssl;"),
-                         ("http://127.0.0.1:8017;", f"http://127.0.0.1:{other};"), *changes]:
-            assert text.count(old) == 1, old
-            text = text.replace(old, new)
-        with open(f"{self.folder}/site.conf", "w", encoding="utf-8") as file:
-            file.write(text)
-        names = ("client_body", "proxy", "fastcgi", "uwsgi", "scgi")
-        places = "".join(f"{name}_temp_path {self.folder}/{name};\n" for name in names)
-        types = "include /etc/nginx/mime.types;\n" if os.path.exists("/etc/nginx/mime.types") else ""
-        kind = f"worker_processes {workers};\n" if workers else "master_process off;\n"
-        with open(f"{self.folder}/nginx.conf", "w", encoding="utf-8") as file:
-            file.write(f"daemon off;\n{kind}pid {self.folder}/pid;\nerror_log {self.folder}/errors;\n"
-                       f"events {{ worker_connections 2000; }}\n"
-                       f"http {{\naccess_log off;\n{types}{places}include {self.folder}/site.conf;\n}}\n")
+        nginx_site.write(self.folder, [("/etc/groundreg/projects.ma[p]", f"{self.folder}/projects.ma[p]"),
+                                       ("/etc/ssl/register.crt;", f"{self.certificate}.crt;"),
+                                       ("/etc/ssl/register.key;", f"{self.certificate}.key;"),
+                                       ("/etc/ssl/certs/ca-certificates.crt", f"{self.certificate}.crt"),
+                                       ("listen 443 ssl;", f"listen 127.0.0.1:{self.port} ssl;"),
+                                       ("    listen [::]:443 ssl;\n", ""), ("    listen [::]:80;\n", ""),
+                                       ("listen 80;", f"listen 127.0.0.1:{self.plain};"),
+                                       ("/var/log/nginx/groundreg.log", f"{self.folder}/log"),
+                                       ("http://unix:/run/groundreg/empty/socket;", f"{address_of(other)};"), *changes],
+                         workers)
 
-    def connect(self, receives=None):
+    def connect(self, receives=None, source=None):
+        """A connection by TLS, from this address of loopback if one is named."""
         context = ssl.create_default_context(cafile=f"{self.certificate}.crt")
-        return context.wrap_socket(connection_to(self.port, PATIENCE, receives), server_hostname=NAME)
+        return context.wrap_socket(connection_to(self.port, PATIENCE, receives, source), server_hostname=NAME)
 
     def end(self):
         self.process.terminate()
         self.process.wait()
-
-
-def certificate_in(folder):
-    """The path, without its ending, of a certificate for the site's name and of its key, made for the moment."""
-    path = os.path.join(folder, "certificate")
-    subprocess.run(["openssl", "req", "-x509", "-newkey", "rsa:2048", "-nodes", "-days", "2", "-subj", f"/CN={NAME}",
-                    "-addext", f"subjectAltName=DNS:{NAME}", "-keyout", f"{path}.key", "-out", f"{path}.crt"],
-                   check=True, capture_output=True)
-    return path
 
 
 def wait_for(port):

@@ -25,8 +25,8 @@ sys.dont_write_bytecode = True
 import bodies  # noqa: E402
 import compare  # noqa: E402
 import machine  # noqa: E402
-import reference  # noqa: E402
 import servers  # noqa: E402
+from machine import ags  # noqa: E402
 
 FIRMS = ["Delta", "Gamma", "Foxtrot", "Echo"]
 DAYS = ["2024-06-02", "2024-06-02", "2024-06-01", "2024-05-31", "2030-01-01", "1970-01-01", "9999-12-31"]
@@ -127,7 +127,7 @@ def refused_callers(chance):
 
 def dictionary(chance):
     """The bytes of a dictionary that is read: the small one, or another."""
-    entries = reference.built_in()
+    entries = ags.built_in().standard
     if chance.random() < 0.7:
         return machine.spelled_dictionary(entries)
     for _ in range(chance.randrange(1, 4)):
@@ -142,7 +142,7 @@ def dictionary(chance):
 
 
 def refused_dictionary(chance):
-    text = machine.spelled_dictionary(reference.built_in())
+    text = machine.spelled_dictionary(ags.built_in().standard)
     return chance.choice([b"", machine.FILE_A, b"".join(machine.lines(text)[:4]),
                           text.replace(b"DICT_PGRP", b"DICT_XXXX"), text + b"x\r\n",
                           text.replace(b'"DATA"', b'"DATUM"', 1), text + text])
@@ -339,7 +339,7 @@ def asking(*words, store="s", **other):
 
 def register_like(other, deposits, number=machine.FORMAT):
     """A register with the dictionary of another one, and these deposits."""
-    register = machine.Register(other.standard)
+    register = machine.Register(other.words)
     register.files, register.deposits, register.format = other.files, deposits, number
     return register
 
@@ -409,8 +409,8 @@ class Story(servers.Place):
         callers = machine.read_callers(self.computer.files[options["callers"]].decode())
         lines = self.got(options["log"]).decode("ascii").splitlines()[-len(given):]
         for data, status, reply, line in zip(given, statuses, replies, lines, strict=True):
-            parts = re.fullmatch(r"\d{4}-\d\d-\d\dT\d\d:\d\d:\d\dZ (.*) \d+ (\d+) \d+", line)
-            got = parts and (parts[1], int(parts[2]))
+            parts = re.fullmatch(r"\d{4}-\d\d-\d\dT\d\d:\d\d:\d\dZ (.*) \d+ (\d+) \d+ (\S+ \S+ \S+ \S+)", line)
+            got = parts and (parts[1], int(parts[2]), parts[3])
             if data is None:
                 want, got = ("fault", 0), got and (got[0].split()[-1], got[1])
             else:

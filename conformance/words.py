@@ -33,9 +33,26 @@ def longer(text):
     return text + b" " * (machine.LIMIT + 1 - len(text))
 
 
-FILES = {"mini": MINI, "q": POLICY, "c": CALLERS, "a": machine.FILE_A, "b": machine.FILE_B, "--day": machine.FILE_A,
+def line_of_log(who, method, path, status, number):
+    """A line of the log of `serve`."""
+    return f"2024-05-01T10:20:30Z {who} contractor {method} /v1/projects/{path} {status} 656 125 3 {number} - - 2d20076c\n"
+
+
+GOOD_LOG = (f"2024-05-01T10:20:29Z * start 1.1.0 policy {'0' * 64} callers {'1' * 64}\n"
+            + line_of_log("Delta", "POST", "N1/deposits", 200, 1) + line_of_log("Delta", "GET", "N1/deposits/9", 200, 9)
+            + line_of_log("Delta", "POST", "N1/check", 200, "-") + line_of_log("Delta", "POST", "N1/deposits", 403, "-")
+            + line_of_log("Foxtrot", "POST", "N1/deposits", 200, 2)
+            + "2024-05-01T10:20:31Z Delta contractor POST /v1/projects/N1/deposits 200 656 125 3\n"
+            + line_of_log("Delta", "DELETE", "N1/deposits/1", 200, 1) + "2024-05-01T10:2")
+# A deposit that is missing, one of another firm, one of another project, and a withdrawal that was not made.
+BAD_LOG = (line_of_log("Delta", "POST", "N1/deposits", 200, 3) + line_of_log("Delta", "POST", "N1/deposits", 200, 2)
+           + line_of_log("Foxtrot", "POST", "N2/deposits", 200, 2) + line_of_log("Foxtrot", "POST", "N1/deposits", 200, 2)
+           + line_of_log("Foxtrot", "DELETE", "N1/deposits/2", 200, 2))
+
+FILES = {"l_good": GOOD_LOG.encode(), "l_bad": BAD_LOG.encode(), "mini": MINI, "q": POLICY, "c": CALLERS, "a": machine.FILE_A, "b": machine.FILE_B, "--day": machine.FILE_A,
          "empty": b"", "junk": b"this is no database", "bytes": b"\xff\xfe", "open": b"[[rule",
          "long": longer(machine.FILE_A), "longest": longer(MINI), "long_q": longer(POLICY), "long_c": longer(CALLERS),
+         "t": b"t-delta\n", "t_crlf": b"t-delta\r\n", "t_bare": b"t-delta", "t_two": b"t-delta\n\n", "t_none": b"",
          "w": machine.WITHDRAWING.encode(),  # the policy under which contractors may withdraw
          # policies by which extracts are drawn in June alone, by which rows are seen from a day on, and one whose rule
          # ends before it begins
@@ -46,7 +63,11 @@ FILES = {"mini": MINI, "q": POLICY, "c": CALLERS, "a": machine.FILE_A, "b": mach
 # a listing of two deposits.
 PRINTED = {machine.FILE_A: b"(a)\n", machine.FILE_A[:466]: b"(a to 466)\n",
            machine.without(machine.FILE_B, 33, 40, 47): b"(of b)\n",
-           b"1 Delta 2024-06-01\n2 Foxtrot 2024-06-01\n": b"(both)\n"}
+           b"1 Delta 2024-06-01\n2 Foxtrot 2024-06-01\n": b"(both)\n",
+           b"verified 2\ncompared 3\n": b"(verified 2, 3 compared)\n",
+           b"verified 2\ncompared 0\n": b"(verified 2, 0 compared)\n",
+           b"verified 2\nmissing deposit 3 Delta N1\nmissing deposit 2 Delta N1\nmissing deposit 2 Foxtrot N2\n"
+           b"missing withdrawal 2 Foxtrot N1\ncompared 5\n": b"(four missing)\n"}
 
 # A register from its making to an extract.
 REGISTER = """
@@ -126,7 +147,59 @@ extract|@|--policy=seen|--token=t-echo|--day=2024-06-02|2 => 0 (of b)
 list|@|--policy=seen|--token=t-echo|--day=2024-06-01 => 0
 """
 
+# The token of one who asks may be in a file, with one line end after it or none.
+TOKEN_FILES = """
+init|--store|s|--dictionary|mini => 0 created
+deposit|@|--token-file=t|a => 0 receipt 1 2024-05-01
+list|--token-file|t_crlf|@ => 0 1 Delta 2024-05-01
+extract|@|--token-file=t_bare|1 => 0 (a)
+withdraw|@|--policy=w|--token-file=t|1 => 0 withdrawn 1
+list|@|--token-file=t_two => 4 ! token refused
+list|@|--token-file=t_none => 4 ! token refused
+list|@|--token-file=gone|--project=N 1 => 6 ! cannot read gone
+list|@|--callers=q|--token-file=gone => 4 ! callers refused
+list|@|--token-file=bytes|--project=N 1 => 4 ! token refused
+"""
+
+# `verify` opens a register and counts its deposits; with a log it compares what that says was taken.
+VERIFIED = """
+init|--store|s|--dictionary|mini => 0 created
+verify|--store=s => 0 verified 0
+deposit|@|a => 0 receipt 1 2024-05-01
+deposit|@|--token=t-foxtrot|a => 0 receipt 2 2024-05-01
+withdraw|@|--policy=w|1 => 0 withdrawn 1
+verify|--store=s => 0 verified 2
+verify|--progress|--store=gone => 4 ! not a register
+verify|--store=junk => 5 ! store failed
+verify|--store=gone|--log=none => 6 ! cannot read none
+verify|--store=s|--log=l_good => 0 (verified 2, 3 compared)
+verify|--store=s|--log=l_bad => 1 (four missing)
+verify|--store=s|--log=empty => 0 (verified 2, 0 compared)
+verify|--store=s|--log=bytes => 6 verified 2 ! cannot read bytes
+"""
+
 WORDS_REFUSED = """
+version|more
+version|--store=s
+verify
+verify|s
+verify|--store=s|s
+verify|--store=s|--policy=q
+verify|--store=s|--log
+list|@|--token=t-delta|--token-file=t
+list|--store=s|--policy=q|--callers=c|--project=N1
+init|--store=s|--dictionary=mini|--token-file=t
+serve|&|--connections=1
+serve|&|--port=80
+serve|&|--port=80|--socket=k|--connections=1
+serve|&|--port=80|--connections=1|--unending
+serve|&|--socket=k
+serve|&|--socket|--unending
+serve|&|--port=80|--unending=yes
+serve|&|--port=80|--unending|--unending
+serve|&|--port=80|--unending|--reload
+list|@|--socket=k
+list|@|--reload=r
 withdraw
 withdraw|1
 withdraw|@
@@ -290,6 +363,11 @@ withdraw|@|--day=2024-02-30|07 => 4 ! day refused
 serve|&|--day=tomorrow|--log=none/l|--port=80|--connections=1 => 4 ! day refused
 serve|&|--log=none/l|--port=80|--connections=1 => 6 ! cannot write none/l
 serve|&|--log=.|--port=80|--connections=1 => 6 ! cannot write .
+# The register's own files are no log, by whichever name.
+serve|&|--log=s|--port=80|--connections=1 => 6 ! cannot write s
+serve|&|--log=s-wal|--port=80|--connections=1 => 6 ! cannot write s-wal
+serve|&|--store=a|--log=./a|--port=80|--connections=1 => 6 ! cannot write ./a
+serve|&|--socket=k|--unending|--store=gone => 4 ! not a register
 serve|&|--port=80|--connections=1 => 4 ! not a register
 extract|@|--groups=loca|07 => 4 ! groups refused
 extract|@|--groups=LOCA,|07 => 4 ! groups refused
@@ -323,7 +401,10 @@ init|--store=s|--dictionary=longest => 4 ! dictionary refused
 init|--store=s|--dictionary=mini => 4 ! store not empty
 """
 
-SCENES = (REGISTER, WITHDRAWAL, RULE_DAYS, WORDS_REFUSED, IN_ANY_ORDER, OF_WORDS_AND_POLICIES,
+# The version is the newest of CHANGELOG.md.
+VERSIONS = "version => 0 " + machine.VERSION.decode()[:-1].replace("\n", "\\n")
+
+SCENES = (REGISTER, WITHDRAWAL, RULE_DAYS, TOKEN_FILES, VERIFIED, VERSIONS, WORDS_REFUSED, IN_ANY_ORDER, OF_WORDS_AND_POLICIES,
           OF_CALLERS_AND_TOKENS, OF_REQUESTS, OF_DICTIONARIES_AND_FILES)
 
 # What `serve` says of a port that is taken (PORT): the port comes last.
@@ -335,6 +416,11 @@ init|--store=s|--dictionary=mini => 0 created
 serve|&|--port=PORT|--connections=1 => 6 ! cannot listen
 serve|&|--port=PORT|--connections=1|--patience=1|--end-on-failure|--log=l => 6 ! cannot listen
 serve|--end-on-failure|--day-by-clock|&|--port=PORT|--patience|3600|--connections=1 => 6 ! cannot listen
+serve|&|--port=PORT|--unending|--reload=r => 6 ! cannot listen
+# A path that is taken by what is no socket, one in no folder, and one that is too long.
+serve|&|--socket=a|--unending => 6 ! cannot listen
+serve|&|--socket=none/k|--unending => 6 ! cannot listen
+serve|&|--unending|--socket=kkkkkkkkkkkkkkkkkkkkkkkkkkkkkkkkkkkkkkkkkkkkkkkkkkkkkkkkkkkkkkkkkkkkkkkkkkkkkkkkkkkkkkkkkkkkkkkkkkkkkkkkkkkk => 6 ! cannot listen
 """
 
 # Starts that open a register, s with one deposit, file a, or try to: the line, the register, and the fault that is
@@ -348,6 +434,7 @@ STARTS = [
     ("withdraw|@|--policy=w|1", "s", ""),
     ("serve|&|--port=PORT|--connections=1", "s", "cannot listen"),
     ("migrate|--store=s", "s", "register version 2"),
+    ("verify|--store=s", "s", ""),
     ("list|@|--store=junk", "junk", "store failed"),
     ("list|@|--store=empty", "empty", "not a register"),
 ]
@@ -470,7 +557,7 @@ class Folder(servers.Place):
 
     def answer(self, words):
         out, said, status = self.run(*words)
-        out = PRINTED.get(out, out)
+        out = PRINTED.get(out, out[:-1].replace(b"\n", b"\\n") + out[-1:])
         told = str(status) + (" " + out.decode("latin-1")[:-1] if out.endswith(b"\n") else out.decode("latin-1"))
         if said.startswith(b"groundreg: ") and said.endswith(b"\n"):
             return told + " ! " + said[len(b"groundreg: "):-1].decode("latin-1")

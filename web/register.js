@@ -1,6 +1,7 @@
-"use strict";
 // The register over HTTP, for one project and one token. Each call answers `{status, bytes, told}`: `told` is the JSON
 // of the reply, or null.
+
+import { textOf } from "./ags.js";
 
 /** What each refusal means, and what to do. The texts are the register's; the sentences are this page's own. */
 const SENTENCES = {
@@ -27,7 +28,7 @@ const BY_STATUS = {
 };
 
 /** The sentence for a reply that is no success. */
-function sentenceFor(reply) {
+export function sentenceFor(reply) {
   if (reply.status === 0) {
     return "The register was not reached. Check the connection, then send a deposit again: it is not kept twice.";
   }
@@ -39,7 +40,26 @@ function sentenceFor(reply) {
   return text ?? BY_STATUS[reply.status] ?? `The register answered with status ${reply.status}.`;
 }
 
-class Register {
+/** The JSON of a reply, or null: an extract is none. */
+function toldIn(bytes) {
+  try {
+    return bytes[0] === "{".charCodeAt(0) ? JSON.parse(textOf(bytes)) : null;
+  } catch {
+    return null;
+  }
+}
+
+// The requests under way.
+const calls = new Set();
+
+/** Breaks off all requests under way, and gives how many there were. */
+export function breakOff() {
+  const number = calls.size;
+  for (const call of [...calls]) call.abort();
+  return number;
+}
+
+export class Register {
   constructor(project, token) {
     this.project = project;
     this.token = token;
@@ -75,14 +95,11 @@ class Register {
       call.responseType = "arraybuffer";
       call.setRequestHeader("Authorization", `Bearer ${this.token}`);
       if (onProgress) call.upload.addEventListener("progress", (event) => onProgress(event.loaded, event.total));
+      calls.add(call);
       call.addEventListener("loadend", () => {
-        const reply = { status: call.status, bytes: new Uint8Array(call.response ?? new ArrayBuffer(0)), told: null };
-        try {
-          reply.told = JSON.parse(ags.text(reply.bytes));
-        } catch {
-          // An extract is no JSON.
-        }
-        resolve(reply);
+        calls.delete(call);
+        const bytes = new Uint8Array(call.response ?? new ArrayBuffer(0));
+        resolve({ status: call.status, bytes, told: toldIn(bytes) });
       });
       call.send(bytes ?? null);
     });

@@ -145,10 +145,10 @@ def cases():
 def of_lines():
     yield ("line_ends_of_unix", TEXT.replace("\r\n", "\n").encode(),
            COUNT, 1, ("2a", 1, "-"),
-           f"All {COUNT} lines end with LF alone;unix2dos")
+           f"All {COUNT} lines end with LF alone;Notepad++")
     yield ("line_ends_of_unix_in_one_group", TEXT.replace("\r\n", "\n", 5).encode(),
            5, 1, ("2a", 5, "-"),
-           f"LF alone ends 5 of {COUNT} lines;unix2dos")
+           f"LF alone ends 5 of {COUNT} lines;Notepad++")
     yield ("line_ends_of_old_macintosh", TEXT.replace("\r\n", "\r").encode(),
            1, 1, ("6", 1, "-"),
            "CR alone;the whole file is one line")
@@ -408,7 +408,7 @@ def of_lists():
            '"KPA" is not listed in UNIT;"kPa";capitals')
     yield ("unit_not_listed", put('"UNIT","","m","","m",""', '"UNIT","","m","","m","Mg/m3"'),
            1, 1, ("15", line_of('"GROUP","LDEN"') + 2, "LDEN_BDEN"),
-           '"Mg/m3" is not listed in UNIT;Add a row with UNIT_UNIT "Mg/m3"')
+           '"Mg/m3" is not listed in UNIT;Add this row below line 38, the last row of UNIT;"DATA","Mg/m3"')
     yield ("type_not_listed", put('"DATA","MC"\r\n', ""),
            1, 1, ("17", LNMC + 2, "LNMC_MC"),
            '"MC" is not listed in TYPE;LNMC_MC')
@@ -437,7 +437,7 @@ def of_forms():
             ("day_first", '"2024-05-31","4.1"', '"31/05/2024","4.1"', 11, "TRAN_DATE",
              'another order of day, month and year;Write "2024-05-31"'),
             ("day_or_month_first", '"2024-05-07","Beside', '"07/05/2024","Beside', TP103, "LOCA_STAR",
-             "the day or the month first;which of the two"),
+             "the day or the month first;would otherwise be after TRAN_DATE, 2024-05-31;Write \"2024-05-07\""),
             ("space_between_day_and_time", '"2024-05-20T09:30"', '"2024-05-20 09:30"',
              line_of('"DATA","BH101","P1","2024-05-20'), "MOND_DTIM",
              'a space between day and time, where a T belongs;Write "2024-05-20T09:30"'),

@@ -3,13 +3,14 @@
     `findings, others = read_findings(b"2a 5 -\\n")`         the program's lines, or the JSON of HTTP
     `explained = explain(data, findings)`                    or `explain(data, findings, dictionary=bytes)`
     `explained.causes()`                                     groups, each with what is wrong here and its fix
-    `report.text(explained)`, `report.as_json(explained)`, `report.sarif(explained)`, `report.html(explained)`
+    `report.text(explained)`, `report.as_json(explained)`, `report.sarif(explained)`, `page.html(explained)`
 
-It is built on conformance/reference.py and on the texts of docs/RULES.md."""
+It is built on the package ags beside it and on the texts of docs/RULES.md."""
 import json
 import re
 
-from . import ags, cause, context
+import ags
+from . import cause, context
 
 
 LINE = re.compile(rb"(\w+) ([0-9]{1,10}) (.*)")
@@ -50,8 +51,9 @@ class Told:
 
     def __init__(self, data, findings, dictionary=None, name="FILE"):
         self.file, self.findings, self.name = ags.File(data), findings, name
-        self.standard = ags.read_dictionary(dictionary)[0] if dictionary is not None else ags.built_in()
-        self.context = context.Context(self.file, self.standard)
+        self.standard, of = ags.read_dictionary(dictionary) if dictionary is not None else (ags.built_in(), None)
+        self.context = context.Context(self.file, self.standard, standard_file=of)
+        self.context.own = None if self.is_of_file() else set(self.own())
         self.phase = max((cause.phase_of(self.context, finding) for finding in findings), default=None)
 
     def own(self):

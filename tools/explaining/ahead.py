@@ -1,11 +1,13 @@
 """A preview of the phases after the one that has findings: what they would find, as far as that can be seen.
 
-    `for phase, causes, count in preview(explained): ..`
+    phases, left_out = preview(explained)
+    for phase, context, grouped in phases: ..
 
 Line ends, mark and encoding are put right in memory, and quotes where it is plain how. Lines that are no rows then, and
 groups without a sound header, are left out of what follows them, and so is every finding that would follow from that
 alone. It is not the program's answer."""
-from . import ags, cause, context, kinds, quotes, texts
+import ags
+from . import cause, context, kinds, quotes
 
 LISTS = {b"UNIT": "15", b"TYPE": "17", b"ABBR": "16", b"FILE": "20"}
 
@@ -29,7 +31,7 @@ def of_items(file):
             size = len(group.headings)
             if len(row.items) != size:
                 items = (row.items + [b""] * size)[:size]
-                out[row.line] = b",".join(map(texts.quoted, [row.descriptor, *items]))
+                out[row.line] = b",".join(map(ags.quoted, [row.descriptor, *items]))
     return out
 
 
@@ -51,7 +53,21 @@ def of_quotes(file):
     for line in file.descriptorless:
         descriptor, *items = ags.fields_of(file.line(line))
         if descriptor.strip().upper() in ags.DESCRIPTORS:
-            out[line] = b",".join(map(texts.quoted, [descriptor.strip().upper(), *items]))
+            out[line] = b",".join(map(ags.quoted, [descriptor.strip().upper(), *items]))
+    return out
+
+
+def of_names(file, words):
+    """The GROUP and HEADING rows whose names are those of the dictionary once they are in capitals."""
+    out = {}
+    for group in file.groups:
+        name = group.name.strip().upper()
+        if name != group.name and words.has_group(name) and name not in file.by_name:
+            out[group.line] = ags.line_of([b"GROUP", name])
+        known = words.places.get(name, {})
+        right = [heading.strip().upper() if heading.strip().upper() in known else heading for heading in group.headings]
+        if right != group.headings and len(set(right)) == len(right):
+            out[group.heading.line] = ags.line_of([b"HEADING", *right])
     return out
 
 
@@ -70,14 +86,16 @@ class Preview:
     """The file as each phase would see it, and the groups that it lacks then."""
 
     def __init__(self, explained):
-        self.standard, self.rules, self.out = explained.standard, explained.context.rules, []
+        self.standard, self.out = explained.standard, []
+        self.rules, self.standard_file = explained.context.rules, explained.context.standard_file
         self.gone, self.lists, self.shown_from = set(), set(), (explained.phase or 0) + 1
         self.file = ags.File(kinds.put_right(explained.file))
         self.run()
 
     def note(self, phase, found):
         if phase >= self.shown_from and found:
-            self.out.append((phase, context.Context(self.file, self.standard, self.rules), ags.in_order(found)))
+            seen = context.Context(self.file, self.standard, self.rules, self.standard_file)
+            self.out.append((phase, seen, ags.in_order(found)))
 
     def run(self):
         right = of_quotes(self.file)
@@ -96,6 +114,8 @@ class Preview:
         self.note(3, found)
         self.leave_out([self.file.group_at(finding.line) for finding in found if finding.code in ("P1", "P2")
                         or not finding.subject])
+        named = of_names(self.file, self.standard)
+        self.file = changed(self.file, named) if named else self.file
         items = of_items(self.file)
         self.file = changed(self.file, items) if items else self.file
         if self.file.rows:
@@ -114,6 +134,7 @@ class Preview:
         absent = {f.subject for f in found if f.line == 0} | self.gone
         keyless = {self.file.group_at(f.line).name for f in found if f.code == "10a"}
         lists = {code for name, code in LISTS.items() if name in absent}
+        keyless |= {f.subject for f in found if f.code in ("13", "14") and f.line}
         self.note(5, {f for f in ags.entry_findings(self.file, words) if f.code not in lists
                       and not self.echoes(f, words, keyless)})
 
@@ -134,11 +155,7 @@ class Preview:
 
 
 def preview(explained):
-    """(phase, its causes' number, the first of them, the findings' number) of each later phase with findings, and how
-    many lines were left out."""
+    """(phase, its context, its causes as `cause.grouped` has them) of each later phase with findings, and how many
+    lines were left out."""
     seen = Preview(explained)
-    out = []
-    for phase, given, found in seen.out:
-        grouped = cause.grouped(given, found)
-        out.append((phase, len(grouped), [cause.cause_of(given, key, some) for key, some in grouped[:10]], len(found)))
-    return out, seen.left_out
+    return [(phase, given, cause.grouped(given, found)) for phase, given, found in seen.out], seen.left_out

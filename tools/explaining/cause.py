@@ -5,7 +5,8 @@
         print(cause.code, cause.subject, cause.value, len(cause.findings), cause.here, cause.fix)"""
 from dataclasses import dataclass
 
-from . import entries, groups, headings, lines, texts
+import ags
+from . import additions, entries, groups, headings, lines, texts
 
 # In which order the causes of one phase are fixed: what other findings follow from comes first.
 ORDER = {code: rank for rank, code in enumerate(
@@ -31,6 +32,7 @@ class Cause:
     here: list
     fix: str
     context: object
+    rows: list
 
     @property
     def place(self):
@@ -67,6 +69,8 @@ def key_of(context, finding):
     if context.kind[0] in NO_TEXT:
         return 1, "file", context.kind[0]
     phase = phase_of(context, finding)
+    if context.is_strange(finding):
+        return phase, finding.code, "elsewhere"
     return phase, *TELLERS[phase].key(context, finding)
 
 
@@ -85,14 +89,30 @@ def cause_of(context, key, findings):
         rule = context.rules[first.code]
         said = context.kind[1]
         return Cause(first.code, rule.title, rule.rule, "", context.kind[0], findings, said[:1],
-                     " ".join(said[1:]) or rule.fix, context)
+                     " ".join(said[1:] or said), context, [])
     rule = context.rules[key[0]]
     same = [finding for finding in findings if finding.code == key[0]] or findings
     subjects = list(dict.fromkeys(finding.subject for finding in same if finding.subject))
-    value, here, fix = TELLERS[phase].tell(context, tuple(key), same)
+    value, here, fix, *rows = elsewhere(context, findings) if key[1:] == ["elsewhere"] else TELLERS[phase].tell(
+        context, tuple(key), same)
+    rows = rows[0] if rows else []
+    if any(ags.shown(additions.TO_WRITE) in row for row in rows) and fix.endswith(":"):
+        fix = f"{fix[:-1]}, with your own text where it says {ags.shown(additions.TO_WRITE)}:"
     return Cause(key[0], rule.title, rule.rule, texts.names(subjects, 4) if subjects else "", value,
                  [*same, *(one for one in findings if one.code != key[0])],
-                 here, fix or rule.fix, context)
+                 here, fix or rule.fix, context, rows)
+
+
+def elsewhere(context, findings):
+    """What is said of findings that the file does not have under this dictionary: they came from another check."""
+    names = list(dict.fromkeys(group.name for finding in findings
+                               if (group := context.file.group_at(finding.line)) is not None))
+    here = ["The file has no such finding under this dictionary."]
+    lacks = [name for name in names if not context.words.has_group(name)]
+    here += [f"{texts.names([name])} is no group of this dictionary." for name in lacks[:4]]
+    here += [f"{texts.names([name])} has no KEY headings in this dictionary." for name in names[:4]
+             if name not in lacks and not context.words.keys(name)]
+    return "", here, "Name the dictionary that the file was checked under: --dictionary D."
 
 
 def grouped(context, findings):

@@ -4,7 +4,8 @@ import gc
 import os
 import sys
 
-from . import ags, explain, read_findings, report
+import ags
+from . import doubts, explain, page, read_findings, report
 
 ABOUT = "Explains findings: reads them from standard input as groundreg prints them, or as the JSON of HTTP."
 ADVICE = {"too large": f"A file has at most {ags.LIMIT:,} bytes; docs/COMMANDS.md says how one is split."}
@@ -16,7 +17,10 @@ def arguments(given):
     parser.add_argument("--dictionary", metavar="D",
                         help="the dictionary that the file was checked under, if not the built-in one")
     parser.add_argument("--all", action="store_true", help="each finding, and not each cause")
-    parser.add_argument("--ahead", action="store_true", help="a preview of what the later phases would find")
+    parser.add_argument("--phase", action="store_true",
+                        help="the phase that was checked alone, without a preview of the later ones")
+    parser.add_argument("--doubts", action="store_true", help="also what AGS4 permits and is often a mistake")
+    parser.add_argument("--project", metavar="ID", default="", help="the PROJ_ID that is expected, for --doubts")
     form = parser.add_mutually_exclusive_group()
     form.add_argument("--json", action="store_true", help="the causes as JSON")
     form.add_argument("--sarif", action="store_true", help="the findings as SARIF 2.1.0")
@@ -30,21 +34,33 @@ def bytes_of(path):
         return file.read()
 
 
+def doubts_of(explained, asked):
+    """The doubts, or None where they were not asked for."""
+    return doubts.doubts(explained.context, asked.project) if asked.doubts else None
+
+
+def page_text(explained, asked, others):
+    found = doubts_of(explained, asked)
+    return page.html(explained, not asked.phase, found) if explained.findings else page.page_of(others, found)
+
+
 def lines_of(explained, asked, others):
     """What is printed."""
     if asked.json:
-        return [report.as_json(explained, asked.ahead)] if explained.findings else ['{"causes": []}']
+        return [report.as_json(explained, not asked.phase, doubts_of(explained, asked))]
     if asked.sarif:
         return [report.sarif(explained)]
     out = list(others) + [ADVICE[line] for line in others if line in ADVICE]
     if explained.findings:
         out += report.every(explained) if asked.all else report.text(explained)
-    return out + (report.preview(explained) if asked.ahead and explained.findings else [])
+    is_ahead = explained.findings and not asked.phase and not asked.all
+    out += report.preview(explained) if is_ahead else []
+    return out + (doubts.printed(explained.context, asked.project) if asked.doubts else [])
 
 
-def write_page(path, page):
+def write_page(path, text):
     with open(path, "w", encoding="utf-8") as file:
-        file.write(page)
+        file.write(text)
 
 
 def main(given):
@@ -60,7 +76,7 @@ def main(given):
         findings, others = read_findings(sys.stdin.buffer.read())
         explained = explain(data, findings, dictionary, asked.file)
         if asked.html:
-            write_page(asked.html, report.html(explained) if findings else report.page_of(others))
+            write_page(asked.html, page_text(explained, asked, others))
             return 0
         print("\n".join(lines_of(explained, asked, others)))
         sys.stdout.flush()

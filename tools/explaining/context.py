@@ -6,8 +6,9 @@ import os
 import re
 from typing import NamedTuple
 
-from . import ags, kinds, quotes
-from .near import Near, normal
+import ags
+from . import additions, kinds, quotes
+from .near import LEAST_LIKE, Near, likeness, normal
 
 RULES = os.path.join(os.path.dirname(os.path.realpath(__file__)), "..", "..", "docs", "RULES.md")
 
@@ -18,6 +19,7 @@ class Rule(NamedTuple):
     fix: str
 
 
+@functools.cache
 def rules_of(path=RULES):
     """For each code its title, what docs/RULES.md says of the rule without this profile's own choices, and how a file
     is fixed."""
@@ -57,8 +59,9 @@ class Context:
     """A file, the dictionary that it was checked under (the standard one, without the file's own DICT) and the
     rules."""
 
-    def __init__(self, file, standard, rules=None):
+    def __init__(self, file, standard, rules=None, standard_file=None):
         self.file, self.standard, self.rules = file, standard, rules or rules_of()
+        self.standard_file, self.own = standard_file, None
         self.words = standard.extended(ags.own_entries(file))
         self.memory = {}
 
@@ -67,6 +70,17 @@ class Context:
         if name not in self.memory:
             self.memory[name] = make()
         return self.memory[name]
+
+    def is_strange(self, finding):
+        """Whether the file does not have this finding, where its own are known."""
+        return self.own is not None and finding not in self.own
+
+    @functools.cached_property
+    def known(self):
+        return additions.Known(self)
+
+    def names_of_codes(self, heading):
+        return self.kept(("names", heading), lambda: additions.names_of_codes(self.file, heading))
 
     @functools.cached_property
     def listed(self):
@@ -109,7 +123,12 @@ class Context:
     def near_heading(self, group, heading):
         """The nearest heading of a group that its HEADING row does not have yet."""
         given = self.file.by_name.get(group)
-        return self.near(group, lambda: self.words.order(group)).nearest(heading, given.columns if given else ())
+        found = self.near(group, lambda: self.words.order(group)).nearest(heading, given.columns if given else ())
+        begins = group + b"_"
+        if found is None or not (found.startswith(begins) and heading.upper().startswith(begins)):
+            return found
+        rest, other = heading.upper()[len(begins):], found[len(begins):]
+        return found if likeness(rest, other) >= LEAST_LIKE else None
 
     def heading_row(self, line):
         """The last HEADING row above a line or in it."""

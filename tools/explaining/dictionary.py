@@ -5,7 +5,8 @@
 import argparse
 import sys
 
-from . import ags, texts
+import ags
+from . import texts
 from .command import bytes_of
 
 STATUS = (b"KEY", b"REQUIRED", b"OTHER", b"")

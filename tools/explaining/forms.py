@@ -7,7 +7,7 @@ import datetime
 import re
 from decimal import Decimal
 
-from . import ags
+import ags
 
 NUMBERS = "no one two three four five six seven eight nine".split()
 UNITS = {
@@ -18,8 +18,11 @@ UNITS = {
     b"hh:mm": ("hours and minutes, two digits each", "09:30"),
     b"hh:mm:ss": ("hours, minutes and seconds, two digits each", "09:30:00")}
 WORDS = {b"YES": b"Y", b"TRUE": b"Y", b"1": b"Y", b"NO": b"N", b"FALSE": b"N", b"0": b"N"}
-NULLS = (b"-", b"--", b"N/A", b"NA", b"NIL", b"NONE", b"NULL", b"NP", b"ND", b"#N/A", b"?", b"UNKNOWN", b"TBC", b"NM",
-         b".")
+# Words that spreadsheets and people write where there is no value. What may be a result (NP, dry, nil) is none of them.
+NULLS = (b"-", b"--", b"N/A", b"NA", b"NONE", b"NULL", b"#N/A", b"?", b".")
+# Entries that are a result, which a number cannot say: they are kept, in a heading that takes them.
+RESULTS = ("less than", "star", "range", "text", "result")
+ORDERS = {"dmy": "the day first", "mdy": "the month first"}
 
 
 def form(kind, unit):
@@ -56,10 +59,16 @@ def spelled(kind, value):
 
 
 def as_number(kind, text):
-    """What a plain number is written as under a type, or None."""
-    if re.fullmatch(rb"[+-]?[0-9]{1,20}(\.[0-9]{0,20})?|[+-]?\.[0-9]{1,20}", text):
-        return spelled(kind, Decimal(text.decode()))
-    return None
+    """What a plain number is written as under a type, or None. Where zeros at its end are enough, the rest of it stays
+    as it is."""
+    parts = re.fullmatch(rb"([+-]?[0-9]{1,20})(?:\.([0-9]{0,20}))?|([+-]?)\.([0-9]{1,20})", text)
+    if parts is None:
+        return None
+    whole, decimals_given = parts[1] or parts[3] + b"0", parts[2] or parts[4] or b""
+    digits = int(kind[:1]) if kind[1:] == b"DP" else -1
+    if len(decimals_given) <= digits:
+        return whole + b"." * (digits > 0) + decimals_given.ljust(digits, b"0")
+    return spelled(kind, Decimal(text.decode()))
 
 
 def wrong_number(kind, entry):
@@ -86,6 +95,8 @@ def wrong_number(kind, entry):
         return "exponent", "an exponent, as spreadsheets show small and large numbers", value
     if text.upper() in NULLS:
         return "word", "a word for no value", b""
+    if re.fullmatch(rb"[A-Za-z][A-Za-z .]*", text):
+        return "result", "a word, and the form is a number alone", None
     parts = re.fullmatch(rb"([+-]?[0-9]+(?:\.[0-9]+)?) *[A-Za-z%][A-Za-z%/0-9]{0,11}", text)
     if parts:
         return "unit within", "a unit beside the number; it belongs in the UNIT row alone", as_number(kind, parts[1])
@@ -118,51 +129,102 @@ def day(year, month, date):
         return None
 
 
-def wrong_day(unit, entry):
+def time_for(unit, text):
+    """What a time is written as after a day under a unit, or None where something of it would be lost."""
+    parts = re.fullmatch(rb" *T? *([0-9]{1,2}):([0-5][0-9])(?::([0-5][0-9])(?:\.0+)?)?", text)
+    if not text.strip():
+        return b""
+    if parts is None or int(parts[1]) > 23:
+        return None
+    hour, minute, second = b"%02d" % int(parts[1]), parts[2], parts[3] or b"00"
+    if b"T" not in unit:
+        return b"" if hour + minute + second == b"000000" else None
+    if unit.endswith(b"ss"):
+        return b"T" + b":".join((hour, minute, second))
+    return b"T" + hour + b":" + minute if second == b"00" else None
+
+
+def with_time(unit, date, more):
+    """A day with its time in the form of the unit, or None."""
+    time = time_for(unit, more)
+    return None if date is None or time is None else date + time
+
+
+def serial_time(fraction):
+    """The time of a spreadsheet's part of a day, to the second."""
+    seconds = round(float(b"0" + (fraction or b"")) * 86400)
+    return b" %02d:%02d:%02d" % (seconds // 3600 % 24, seconds // 60 % 60, seconds % 60)
+
+
+def readings(text):
+    """What an entry with day, month and year in this order may mean: {order: day}, and the text after it; None for
+    any other entry."""
+    parts = re.fullmatch(rb"([0-9]{1,2})[/.-]([0-9]{1,2})[/.-]([0-9]{4})(.*)", text.strip())
+    if not parts:
+        return None
+    first, second, year, more = parts.groups()
+    found = {"dmy": day(year, second, first), "mdy": day(year, first, second)}
+    return {order: date for order, date in found.items() if date}, more
+
+
+def day_first(unit, text, days):
+    """What is wrong with an entry whose year comes last, where it is one."""
+    dates, more = readings(text)
+    if not dates:
+        return "no such day", "no day of the calendar", None
+    if len(set(dates.values())) > 1:
+        said = "the day or the month first, and nothing in the entry says which"
+        return "day and month", said, with_time(unit, dates.get(days), more)
+    right = with_time(unit, next(iter(dates.values())), more)
+    return "day first", "another order of day, month and year", right
+
+
+def wrong_day(unit, entry, days):
     """What is wrong with an entry where a day or a time is asked for."""
-    text, has_time = entry.strip(), b"T" in unit
-    if text != entry:
+    text, has_day = entry.strip(), unit.startswith(b"yyyy-mm-dd")
+    if text != entry and (ags.fits(b"DT", unit, text) or not has_day):
         return "spaces", "spaces at an end", text
     serial = re.fullmatch(rb"([0-9]{5})(\.[0-9]+)?", text)
-    if serial and unit.startswith(b"yyyy-mm-dd"):
-        at = datetime.date(1899, 12, 30) + datetime.timedelta(int(serial[1]))
-        return "serial date", "a spreadsheet's number of a day", at.isoformat().encode()
-    parts = re.fullmatch(rb"([0-9]{1,2})[/.-]([0-9]{1,2})[/.-]([0-9]{4})(.*)", text)
-    if parts and unit.startswith(b"yyyy-mm-dd"):
-        first, second, year, more = parts.groups()
-        right = day(year, second, first) or day(year, first, second)
-        both = day(year, second, first) and day(year, first, second) and first != second
-        words = ("the day or the month first, and nothing in the entry says which" if both
-                 else "another order of day, month and year")
-        return "day and month" if both else "day first", words, None if more or both else right
-    if re.fullmatch(rb"[0-9]{4}-[0-9]{2}-[0-9]{2} [0-9:]+", text) and has_time:
-        return "blank for T", "a space between day and time, where a T belongs", text.replace(b" ", b"T", 1)
-    parts = re.fullmatch(rb"([0-9]{4})[-/.]?([0-9]{1,2})[-/.]?([0-9]{1,2})", text)
-    if parts and unit.startswith(b"yyyy-mm-dd"):
-        right = day(*parts.groups())
-        if right in (None, text):
+    if serial and has_day:
+        date = datetime.date(1899, 12, 30) + datetime.timedelta(int(serial[1]))
+        more = serial_time(serial[2]) if serial[2] else b""
+        return "serial date", "a spreadsheet's number of a day", with_time(unit, date.isoformat().encode(), more)
+    if has_day and readings(text):
+        return day_first(unit, text, days)
+    if re.fullmatch(rb"[0-9]{4}-[0-9]{2}-[0-9]{2} [0-9:]+", text) and b"T" in unit:
+        return ("blank for T", "a space between day and time, where a T belongs",
+                with_time(unit, day(text[:4], text[5:7], text[8:10]), text[10:]))
+    parts = re.fullmatch(rb"([0-9]{4})[-/.]?([0-9]{1,2})[-/.]?([0-9]{1,2})(.*)", text)
+    if parts and has_day:
+        right = day(*parts.groups()[:3])
+        if right is None or right == text:
             return "no such day", "no day of the calendar", None
-        return "day's signs", "other signs or fewer digits than yyyy-mm-dd", right
-    if re.fullmatch(rb"[0-9]{4}-[0-9]{2}-[0-9]{2}.+", text):
-        right = text[:10] if unit == b"yyyy-mm-dd" else text[:10] + b"T" + text[11:16]
-        return "time", f"a time in another form than {ags.shown(unit)}", right if ags.reference.fits(b"DT", unit,
-            right) else None
+        if not parts[4]:
+            return "day's signs", "other signs or fewer digits than yyyy-mm-dd", right
+        return "time", f"a time in another form than {ags.shown(unit)}", with_time(unit, right, parts[4])
     if re.fullmatch(rb"[0-9]:[0-5][0-9](:[0-5][0-9])?", text) and unit.startswith(b"hh"):
         right = b"0" + text
-        return "one digit", "an hour of one digit", right if ags.reference.fits(b"T", unit, right) else None
+        return "one digit", "an hour of one digit", right if ags.fits(b"T", unit, right) else None
     if text.upper() in NULLS:
         return "word", "a word for no value", b""
     return "text", "another form", None
 
 
-def mistake(kind, unit, entry):
+def mistake(kind, unit, entry, days=""):
     """What is wrong with an entry, by a name that is the same for entries of the same mistake and in words, and it put
-    right, or None."""
+    right, or None. `days` says which comes first in an entry that can be read both ways: `dmy` or `mdy`."""
     if kind == b"YN":
         text = entry.strip().upper()
-        return "word", "another word", text if text in (b"Y", b"N") else WORDS.get(text)
+        return "word", "a word for Y or N", text if text in (b"Y", b"N") else WORDS.get(text)
     if kind in (b"DT", b"T"):
-        return wrong_day(unit, entry)
+        return wrong_day(unit, entry, days)
     if kind == b"DMS":
         return "text", "another form", None
     return wrong_number(kind, entry)
+
+
+def pads(kind, text):
+    """Whether a number has no more decimals than its type asks for, so that zeros alone are added."""
+    if not re.fullmatch(rb"[+-]?([0-9]+\.?[0-9]*|\.[0-9]+)", text):
+        return False
+    return kind[1:] != b"DP" or len(text.partition(b".")[2]) <= int(kind[:1])

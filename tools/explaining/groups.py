@@ -2,7 +2,8 @@
 import bisect
 import re
 
-from . import ags, texts
+import ags
+from . import texts
 
 HEADER = (b"GROUP", b"HEADING", b"UNIT", b"TYPE")
 
@@ -58,8 +59,9 @@ def tell(context, key, findings):
 def no_data(context, key, findings):
     if key[1] == "file":
         size = len(context.file.data)
-        here = "The file has no bytes." if size == 0 else f"None of its {texts.count(size, 'byte')} belongs to a row."
-        return "", [here], "Send the file itself. curl without the file that it names sends nothing."
+        here = ("The file has no bytes." if size == 0 else "The file has a mark EF BB BF and nothing else."
+                if context.file.data == ags.MARK else f"None of its {texts.count(size, 'byte')} belongs to a row.")
+        return "", [here], "Export or send the file again. curl without the file that it names sends nothing."
     empty = [finding.subject for finding in findings]
     here = [f"{texts.names(empty)}: no DATA row below the TYPE row."]
     return (texts.names(empty), here,
@@ -108,8 +110,10 @@ def order(context, key, findings):
         return missing_row(context, group, name, missing, also)
     if twice:
         word = ags.shown(twice.descriptor)
-        return word, [f"{name} has a second {word} row in line {twice.line}."] + also, \
-            f"Take the second {word} row out, or put the GROUP row of its own group above it."
+        here = [f"{name} has a second {word} row in line {twice.line}."] + also
+        if twice.items == first_of(group, twice.descriptor).items and not also:
+            return word, here + ["It is the same as the first."], f"Take line {twice.line} out."
+        return word, here, f"Take the second {word} row out, or put the GROUP row of its own group above it."
     return order_of(group, name, line, also)
 
 
@@ -141,15 +145,50 @@ def missing_row(context, group, name, missing, also):
              f"({ags.shown(after.descriptor)})")
     here = (f"{name} has no {words} row{'' if len(missing) == 1 else 's'}: "
             f"{'it belongs' if len(missing) == 1 else 'they belong'} {place}.")
-    items = len(group.headings) or len(above.items)
-    example = {b"UNIT": [b""] * items, b"TYPE": [b"X"] * items}.get(missing[0])
-    fix = None
-    if example is not None and b"HEADING" not in missing:
-        spelled = texts.clipped(texts.row(missing[0], example))
-        fix = f"Add the row, with {texts.count(items, 'item')}, one for each heading: {spelled}"
-        if missing[0] == b"TYPE":
-            fix += " (X takes any text: write the real types, as ID, 2DP, RL or PA)."
-    return words, [here] + also, fix
+    row = missing_header(context, group, missing[0]) if b"HEADING" not in missing else None
+    if row is None:
+        return words, [here] + also, None
+    count = texts.count(len(row) - 1, "item")
+    fix = f"Add this row {place}, with {count}, one for each heading:"
+    return words, [here] + also + said_of_header(context, group, missing[0]), fix, [ags.shown(ags.line_of(row))]
+
+
+def missing_header(context, group, descriptor):
+    """The fields of the UNIT or TYPE row that a group lacks, with the units or types of the dictionary; None for
+    another row."""
+    words, name = context.words, name_of(context, group)
+    headings = known_headings(context, group)
+    if descriptor == b"UNIT":
+        return [descriptor, *(words.unit(name, heading) for heading in headings)]
+    if descriptor == b"TYPE":
+        return [descriptor, *(words.kind(name, heading) or b"X" for heading in headings)]
+    return None
+
+
+def known_headings(context, group):
+    """The headings of a group, in capitals where the dictionary has them so."""
+    known = context.words.places.get(name_of(context, group), {})
+    return [heading.strip().upper() if heading.strip().upper() in known else heading for heading in group.headings]
+
+
+def name_of(context, group):
+    """The name of a group, in capitals where the dictionary has it so."""
+    upper = group.name.strip().upper()
+    return group.name if context.words.has_group(group.name) or not context.words.has_group(upper) else upper
+
+
+def said_of_header(context, group, descriptor):
+    """What the dictionary does not say of the headings of a missing row."""
+    words, name = context.words, name_of(context, group)
+    if not any(words.kind(name, heading) for heading in words.order(name)):
+        return ["The dictionary has no types and no units: write the real "
+                + ("types, as ID, 2DP, RL or PA, since X takes any text." if descriptor == b"TYPE"
+                   else "units, as m or kPa, where an entry has one.")]
+    lacks = [heading for heading in known_headings(context, group) if heading not in words.order(name)]
+    if lacks:
+        return [f"The dictionary does not have {texts.names(lacks)}: write its "
+                f"{'type, since X takes any text' if descriptor == b'TYPE' else 'unit, if it has one'}."]
+    return ["The " + ("types" if descriptor == b"TYPE" else "units") + " are those of the dictionary."]
 
 
 def order_of(group, name, line, also):
@@ -245,10 +284,18 @@ def heading_name(context, key, findings):
     if near:
         fix = f"Write {ags.shown(near)}."
     elif name == b"" and group:
-        empty = [heading for heading in group.headings if heading == b""]
-        fix = (f"Take the {texts.count(len(empty), 'empty item')} out of the HEADING row, with what is under it in the "
-               "rows of the group.")
+        fix = fix_of_empty(group)
     return ags.shown(name), here, fix
+
+
+def fix_of_empty(group):
+    """A heading without a name goes where nothing is under it, and else gets a name."""
+    empty = {at for at, heading in enumerate(group.headings) if not heading}
+    row = next((row for row in group.data if any(row.items[at:at + 1] > [b""] for at in empty)), None)
+    if row is not None:
+        return f"Name the heading that belongs there: line {row.line} has an entry under it."
+    which = "empty item" if len(empty) == 1 else f"{len(empty)} empty items"
+    return f"Take the {which} out of the HEADING row, with the items under {'it' if len(empty) == 1 else 'them'}."
 
 
 def group_twice(context, key, findings):
@@ -262,23 +309,30 @@ def group_twice(context, key, findings):
                     f"{texts.count(len(again.data), 'DATA row')}.")
     here = here[:4]
     if same:
-        again = context.file.group_at(findings[0].line)
-        first_line, last_line = (again.data or again.rows)[0].line, (again.data or again.rows)[-1].line
-        rows = f"line {first_line}" if first_line == last_line else f"lines {first_line} to {last_line}"
+        moved = [rows_from(context.file.group_at(finding.line)) for finding in findings]
         last = (first.data or first.rows)[-1].line
-        fix = (f"Move the DATA rows ({rows}) below the last DATA row of the first, line {last}, and take the second "
-               "header out.")
+        fix = (f"Move the DATA rows ({texts.listing(moved, len(moved))}) below the last DATA row of the first, line "
+               f"{last}, and take the {'second header' if len(moved) == 1 else 'other headers'} out.")
         return ags.shown(name), here + ["Its headings are the same in each place."], fix
     return ags.shown(name), here + ["Its headings differ."], \
         "Put all rows under one HEADING row with the headings of both, and \"\" where a row has no entry."
 
 
+def rows_from(group):
+    """The DATA rows of a group, in words."""
+    first, last = (group.data or group.rows)[0].line, (group.data or group.rows)[-1].line
+    return f"line {first}" if first == last else f"lines {first} to {last}"
+
+
 def heading_twice(context, key, findings):
     name, group = findings[0].subject, context.file.group_at(findings[0].line)
     columns = [column for column, heading in enumerate(group.headings) if heading == name]
-    equal = all(len({row.items[column] for column in columns if column < len(row.items)}) <= 1 for row in group.data)
-    here = [f"{ags.shown(name)} is heading {texts.listing([str(column + 1) for column in columns])} of the HEADING row "
+    equal = all(len({row.items[column] for column in columns if column < len(row.items)}) <= 1
+                for row in group.rows[1:])
+    here = [f"{ags.shown(name) or 'The empty heading'} is heading "
+            f"{texts.listing([str(column + 1) for column in columns])} of the HEADING row "
             f"in line {group.heading.line}."]
-    here.append("The entries under them are the same in each row." if equal else "The entries under them differ.")
+    here.append("What is under them is the same in each row." if equal else "What is under them differs.")
     return (ags.shown(name), here,
-            None if equal else "Give one of the two its right name, or take it out with its item in each row.")
+            "Keep the first of them, and take what repeats it out, with its item in each row." if equal
+            else "Give one of the two its right name, or take it out with its item in each row.")

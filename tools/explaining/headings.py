@@ -1,7 +1,9 @@
 """The fourth phase: groups against the dictionary (Rules 7, 9, 10a, 10b, 10c, 11a, 11b, 13, 14, 15, 17, 18, 19b)."""
 import bisect
 
-from . import ags, texts
+import ags
+from . import additions, lists, texts
+from .groups import names_of
 
 WANTED = {b"PROJ": "one DATA row that names the project", b"TRAN": "one DATA row that tells of the transmission",
           b"UNIT": "a DATA row for each unit that is used", b"TYPE": "a DATA row for each type that is used"}
@@ -29,13 +31,17 @@ def name_key(context, code, subject, row, group):
         near = context.near_group(subject) if is_group else context.near_heading(group.name, subject) if group else None
         if near is None:
             return code, "names"
-    return code, "group" if is_group else "heading", subject, b"" if is_group or group is None else group.name
+    if is_group or group is None:
+        return code, "group", subject
+    if context.near_heading(group.name, subject) is None:
+        return code, "headings"
+    return code, "heading", subject, group.name
 
 
 def tell(context, key, findings):
     code = key[0]
     if code in ("9", "18"):
-        tellers = {"heading": unknown_heading, "group": unknown_group, "names": unknown_names}
+        tellers = {"heading": unknown_heading, "headings": own_headings, "group": unknown_group, "names": unknown_names}
         return tellers[key[1]](context, key, findings)
     if code == "7":
         return order(context, key, findings)
@@ -74,37 +80,82 @@ def unknown_names(context, key, findings):
 def unknown_group(context, key, findings):
     name = findings[0].subject
     here = [f"{ags.shown(name)} is no group of the dictionary, nor of the file's DICT."]
-    near = context.near_group(name)
-    if near and near not in context.file.by_name:
+    near, heading = context.near_group(name), context.file.by_name[name].heading
+    if near and near not in context.file.by_name and not (heading and names_of([heading]) == name):
         return (ags.shown(name), here + [f"The nearest name is {ags.shown(near)}."],
-                f"Write {ags.shown(near)}, if that is meant.")
-    return ags.shown(name), here + [edition(context)], None
+                f"Write {ags.shown(near)} instead of {ags.shown(name)} in {texts.lines(f.line for f in findings)}, if "
+                f"that "
+                "is meant.")
+    fix = (f"Check under the dictionary that has it; or, if the group is the file's own, add these rows "
+           f"{additions.place_of(context, b'DICT')}:")
+    return ags.shown(name), here + [edition(context)], fix, additions.block(context, b"DICT", own_group(context, name))
+
+
+def own_group(context, name):
+    """What the file's DICT has to have for a group of its own: the group and its headings. The deepest group whose KEY
+    headings it has is the one that it belongs to."""
+    group, words = context.file.by_name[name], context.words
+    above = [other for other in words.parents if words.keys(other) and other in context.file.by_name
+             and set(words.keys(other)) <= set(group.headings)]
+    parent = max(above, key=lambda other: (len(words.keys(other)), words.depth(other)), default=b"PROJ")
+    entries = [{b"DICT_TYPE": b"GROUP", b"DICT_GRP": name, b"DICT_HDNG": b"", b"DICT_DESC": None, b"DICT_PGRP": parent}]
+    return entries + [own_entry(context, group, heading, b"KEY" if heading in words.keys(parent) else b"OTHER")
+                      for heading in group.headings]
 
 
 def unknown_heading(context, key, findings):
+    """A heading that is nearly one of the dictionary."""
     heading, group = findings[0].subject, context.file.group_at(findings[0].line)
-    here = [f"{ags.shown(heading)} is no heading of {ags.shown(group.name)} in the dictionary, nor in the file's DICT."]
     near = context.near_heading(group.name, heading)
+    here = [f"{ags.shown(heading)} is no heading of {ags.shown(group.name)} in the dictionary, nor in the file's DICT.",
+            f"The nearest heading of {ags.shown(group.name)} that its HEADING row does not have is {ags.shown(near)}."]
+    fix = (f"Write {ags.shown(near)} instead of {ags.shown(heading)} in line {group.heading.line}, if that is meant; "
+           f"else "
+           f"add this row {additions.place_of(context, b'DICT')}:")
+    return (ags.shown(heading), here, fix,
+            additions.block(context, b"DICT", [own_entry(context, group, heading)]))
+
+
+def own_headings(context, key, findings):
+    """Headings that no dictionary has: the rows that define them, as one block, in the order of their HEADING rows."""
+    given = sorted(((context.file.group_at(finding.line), finding.subject) for finding in findings),
+                   key=lambda one: (one[0].line, one[0].columns[one[1]]))
+    here = [said_of_heading(context, group, heading) for group, heading in given[:lists.MOST_SAID]]
+    if len(given) > lists.MOST_SAID:
+        here.append(f"Nor does it have {texts.count(len(given) - lists.MOST_SAID, 'more heading')}; each is in the "
+                    f"rows below.")
+    moved = [words for group in {group.line: group for group, _ in given}.values() for words in moves(context, group)]
+    is_one, has_dict = len(given) == 1, b"DICT" in context.file.by_name
+    what = ("this group" if not has_dict else "this row" if is_one else "these rows")
+    fix = (f"{' '.join(moved)}{'Define' if not moved else ' Then define'} {'it' if is_one else 'them'} in the file's "
+           f"group "
+           f"DICT: add {what} {additions.place_of(context, b'DICT')}:")
+    return (texts.names([heading for _, heading in given]), here + [edition(context)], fix,
+            additions.block(context, b"DICT", [own_entry(context, group, heading) for group, heading in given]))
+
+
+def said_of_heading(context, group, heading):
     others = [name for name in context.words.groups_of.get(heading, ()) if name != group.name]
-    fix = None
-    if near:
-        here.append(f"The nearest heading of {ags.shown(group.name)} that its HEADING row does not have is "
-                    f"{ags.shown(near)}.")
-        fix = f"Write {ags.shown(near)}, if that is meant; else define {ags.shown(heading)} in the file's DICT."
-    elif others:
-        here.append(f"It is a heading of {texts.names(others, 4)}.")
-    else:
-        fix = f"Define it in the file's group DICT: {texts.row(b'DATA', own_entry(context, group.name, heading))}"
-    if not near:
-        here.append(edition(context))
-    return ags.shown(heading), here, fix
+    of = f" It is a heading of {texts.names(others, 4)}." if others else ""
+    return (f"{ags.shown(heading)} is no heading of {ags.shown(group.name)} in the dictionary, nor in the file's "
+            f"DICT.{of}")
 
 
-def own_entry(context, group, heading):
-    """The items of a DICT row that defines a heading, under the DICT of the file or under the usual five headings."""
-    given = context.file.by_name.get(b"DICT")
-    said = {b"DICT_TYPE": b"HEADING", b"DICT_GRP": group, b"DICT_HDNG": heading, b"DICT_STAT": b"OTHER"}
-    return [said.get(name, b"") for name in (given.headings if given else (*said, b"DICT_PGRP"))]
+def moves(context, group):
+    """How the headings of a group are written once its own are defined: after those of the dictionary (Rule 7)."""
+    right = right_order(context, group)
+    if right == group.headings:
+        return []
+    return [f"Write the headings of line {group.heading.line} as {', '.join(map(ags.shown, right))}, and the items of "
+            f"each "
+            f"row of {ags.shown(group.name)} in the same order: own headings come after those of the dictionary."]
+
+
+def own_entry(context, group, heading, status=b"OTHER"):
+    """What the file's DICT has to have for a heading; its text is to be written."""
+    return {b"DICT_TYPE": b"HEADING", b"DICT_GRP": group.name, b"DICT_HDNG": heading, b"DICT_STAT": status,
+            b"DICT_DTYP": group.kind(heading), b"DICT_DESC": None, b"DICT_UNIT": group.measure(heading),
+            b"DICT_PGRP": b""}
 
 
 def longest_in_order(places):
@@ -120,6 +171,14 @@ def longest_in_order(places):
         out.append(last)
         last = before[last]
     return out[::-1]
+
+
+def right_order(context, group):
+    """The headings of a group in the order of the dictionary, and after them those that it does not have: the place
+    that is theirs once the file's DICT defines them too."""
+    places = context.words.places.get(group.name, {})
+    known = sorted((heading for heading in group.headings if heading in places), key=places.get)
+    return known + [heading for heading in group.headings if heading not in places]
 
 
 def order(context, key, findings):
@@ -142,11 +201,14 @@ def order(context, key, findings):
         here.append(f"{texts.names(passed, 5)} can stay: "
                     f"{'a heading that has to move comes' if len(moved) == 1 else 'headings that have to move come'} "
                     "first.")
-    right_row = iter(right)
-    whole = [next(right_row) if heading in places else heading for heading in group.headings]
+    own = [heading for heading in known if (group.name, heading) in context.words.own]
+    if own:
+        here.append(f"{texts.names(own)} {'is' if len(own) == 1 else 'are'} in the file's own DICT, and not in the "
+                    "dictionary: own headings come after those of the dictionary.")
     return (texts.names(moved), here,
-            f"Write the headings of line {group.heading.line} as {texts.names(whole, 30)}, and the items of each row "
-            f"of {ags.shown(group.name)} in the same order.")
+            f"Write the headings of line {group.heading.line} as "
+            f"{', '.join(map(ags.shown, right_order(context, group)))}, "
+            f"and the items of each row of {ags.shown(group.name)} in the same order.")
 
 
 def absent_heading(context, key, findings):
@@ -167,21 +229,24 @@ def absent_heading(context, key, findings):
 
 
 def absent_parent(context, key, findings):
-    """The parent group is missing: which group, its joining headings, and the entries that rows need."""
+    """The parent group is missing: which group, and the rows that it has to have, as one block."""
     parent, needed = key[2], {}
     for finding in findings:
         group = context.file.by_name[finding.subject]
         joined = tuple(heading for heading in context.words.keys(parent) if heading in group.columns)
-        needed.update(((joined, group.entries(row, joined)), None) for row in group.data)
+        needed.update(((joined, group.entries(row, joined)), None) for row in group.data if any(row.items))
     names, over = texts.names([finding.subject for finding in findings]), ags.shown(parent)
     belong = "belongs" if len(findings) == 1 else "belong"
     here = [f"{names} {belong} to the group {over}, and the file has no group {over}."]
-    if any(joined for joined, _ in needed):
-        rows = [f"({texts.pairs(joined, entries)})" for joined, entries in needed]
-        here.append(f"Its rows need {texts.count(len(rows), over + ' row')}: {texts.listing(rows, 3)}.")
+    if not any(joined for joined, _ in needed):
+        return over, here, f"Add the group {over}."
+    rows = [f"({texts.pairs(joined, entries)})" for joined, entries in needed]
+    here.append(f"Its rows need {texts.count(len(rows), over + ' row')}: {texts.listing(rows, 3)}.")
     keys = context.words.keys(parent)
-    with_keys = f", with the KEY headings {texts.names(keys, 12)} and these rows" if keys else ""
-    return over, here, f"Add the group {over}{with_keys}."
+    fix = (f"Add the group {over}, with the KEY heading{'s' * (len(keys) > 1)} {texts.names(keys, 12)} and these rows, "
+           f"{additions.place_of(context, parent)}:")
+    entries = [dict(zip(joined, entries)) for joined, entries in needed]
+    return over, here, fix, additions.block(context, parent, entries)
 
 
 def sign(context, key, findings):
@@ -194,19 +259,34 @@ def sign(context, key, findings):
 def one_row(context, key, findings):
     name = findings[0].subject
     if findings[0].line == 0:
-        near = next((other for other in context.file.by_name if other.upper() == name and other != name), None)
-        here = [f"The file has no group {ags.shown(name)}, with {WANTED[name]}."]
-        if near:
-            here.append(f"It has {ags.shown(near)}.")
-        else:
-            here += headings_of(context, name)
-        return ags.shown(name), here, f"Add the group {ags.shown(name)}, with {WANTED[name]}."
+        return absent_group(context, name)
     rows = context.file.by_name[name].data
     here = [f"{ags.shown(name)} has {texts.count(len(rows), 'DATA row')}, from line {rows[0].line} to line "
             f"{rows[-1].line}; it has one."]
-    if any(row.items == rows[0].items for row in rows[1:]):
-        here.append("One of them is the same as the first.")
-    return ags.shown(name), here, f"Keep one of {texts.lines(row.line for row in rows)}, and take the others out."
+    if all(row.items == rows[0].items for row in rows[1:]):
+        return (ags.shown(name), here + ["Each is the same as the first."],
+                f"Take {texts.lines(row.line for row in rows[1:])} out.")
+    group = context.file.by_name[name]
+    differ = [heading for heading in group.headings if len({group.entry(row, heading) for row in rows}) > 1]
+    here.append(f"They differ in {texts.names(differ, 5)}.")
+    return (ags.shown(name), here,
+            f"A person decides: keep one of {texts.lines(row.line for row in rows)}, and take the others out.")
+
+
+def absent_group(context, name):
+    """A group that each file has is missing: it is added whole."""
+    near = next((other for other in context.file.by_name if other.upper() == name and other != name), None)
+    here = [f"The file has no group {ags.shown(name)}, with {WANTED[name]}."]
+    here += [f"It has {ags.shown(near)}."] if near else headings_of(context, name)
+    if name in (b"UNIT", b"TYPE"):
+        code = "15" if name == b"UNIT" else "17"
+        entries = [lists.entry_of(context, code, value) for value in lists.used(context, code)]
+    else:
+        entries = [{b"TRAN_DLIM": b"|", b"TRAN_RCON": b"+"} if name == b"TRAN" else {}]
+    if not entries:
+        return ags.shown(name), here, f"Add the group {ags.shown(name)}, with {WANTED[name]}."
+    return (ags.shown(name), here, f"Add this group {additions.place_of(context, name)}:",
+            additions.block(context, name, entries))
 
 
 def headings_of(context, name):

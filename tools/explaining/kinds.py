@@ -1,28 +1,14 @@
 """What a file really is, where it is no AGS4 text as it should be: said once, above all findings.
 
     kind_of(file)          # ('UTF-16', ['The file is UTF-16 ..'])
-    characters(data)       # what is beyond ASCII: each character with its lines and its usual spelling
+    characters(text)       # what is beyond ASCII: each character with its lines and its usual spelling
     put_right(file)        # the bytes with line ends, mark and encoding as they should be"""
 import re
 import unicodedata
 
-from . import ags, texts
+import ags
+from . import spellings, texts
 
-SPELLINGS = {
-    "\u00b0": "deg", "\u00ba": "deg", "\u00b2": "2", "\u00b3": "3", "\u00b9": "1", "\u00b5": "u", "\u03bc": "u",
-             "\u2013": "-", "\u2014": "-",
-    "\u2212": "-", "\u2010": "-", "\u2011": "-", "\u2018": "'", "\u2019": "'", "\u201c": '""', "\u201d": '""',
-             "\u201e": '""', "\u00a0": " ",
-    "\u202f": " ", "\u2009": " ", "\u00d7": "x", "\u00f7": "/", "\u00b1": "+/-", "\u2264": "<=", "\u2265": ">=",
-             "\u2026": "...",
-    "\u00bd": "1/2", "\u00bc": "1/4", "\u00be": "3/4", "\u00df": "ss", "\u00e4": "ae", "\u00f6": "oe", "\u00fc": "ue",
-             "\u00c4": "Ae",
-    "\u00d6": "Oe", "\u00dc": "Ue", "\u00e6": "ae", "\u00f8": "oe", "\u00e5": "aa", "\u00a3": "GBP", "\u20ac": "EUR",
-             "\u2022": "-",
-    "\u00ae": "(R)", "\u2122": "(TM)", "\u00a9": "(C)", "\u03b1": "alpha", "\u03b2": "beta", "\u03b3": "gamma",
-             "\u03c6": "phi",
-    "\u03c3": "sigma", "\u03c4": "tau", "\u0394": "delta", "\u00d8": "dia", "\u2300": "dia", "\u2030": "per mille",
-             "\ufeff": ""}
 MOST_CHARACTERS = 12
 ZIP, PDF = b"PK\x03\x04", b"%PDF"
 
@@ -41,31 +27,23 @@ def decoded(data):
         return data.decode("cp1252", "replace"), "Windows-1252"
 
 
-def spelling(character):
-    """The usual spelling of a character in ASCII, or None."""
-    if character in SPELLINGS:
-        return SPELLINGS[character]
-    plain = unicodedata.normalize("NFKD", character).encode("ascii", "ignore").decode()
-    return plain if plain and plain.isprintable() else None
-
-
 def characters(text):
-    """(character, times, first line, usual spelling) of each character beyond ASCII, the most frequent first."""
-    times, first = {}, {}
+    """(character, where, times, first line, usual spelling) of each character beyond ASCII, the most frequent first."""
+    times, first, rights = {}, {}, {}
     for number, line in enumerate(text.split("\n"), 1):
-        if not line.isascii():
-            for character in re.findall(r"[^\x00-\x7f]", line):
-                times[character] = times.get(character, 0) + 1
-                first.setdefault(character, number)
-    return [(one, times[one], first[one], spelling(one)) for one in sorted(times, key=lambda one: (-times[one], one))]
+        for character, where, right in spellings.pieces(line.rstrip("\r")) if not line.isascii() else ():
+            times[character, where] = times.get((character, where), 0) + 1
+            first.setdefault((character, where), number)
+            rights[character, where] = right
+    return [(*one, times[one], first[one], rights[one]) for one in sorted(times, key=lambda one: (-times[one], one))]
 
 
 def character_line(one):
-    character, times, line, right = one
+    character, where, times, line, right = one
     name = unicodedata.name(character, "no name").lower()
-    write = ("take it out" if right == "" else "write a space" if right == " " else f"write {right}" if right
-             else "no usual spelling in ASCII")
-    return f"U+{ord(character):04X} {name}: {write} ({texts.count(times, 'time')}, first in line {line})"
+    write = ("take it out" if right == "" else "write a space" if right == " " else "no usual spelling in ASCII"
+             if right is None else f"write {right}" if right[0] != " " else f"write a space and {right[1:]}")
+    return f"U+{ord(character):04X} {name}{where}: {write} ({texts.count(times, 'time')}, first in line {line})"
 
 
 def is_ags3(file):
@@ -78,32 +56,48 @@ def bare_descriptors(file, sign):
     return sum(line.startswith(begins) for line in file.lines[:200])
 
 
+def packed(data):
+    """What a file is that is no text, by name and in sentences, or None."""
+    if data[:4] == ZIP:
+        if b"xl/" in data or b"[Content_Types]" in data[:4000]:
+            return "ZIP", ["The file is a workbook (.xlsx) and no text.",
+                           "Export it as AGS4 by the program or add-in that keeps it, or write it by bin/tables "
+                           "BOOK.xlsx -o FILE.ags, where each sheet is a group. A workbook that is renamed to .ags "
+                           "stays one."]
+        return "ZIP", ["The file is a ZIP archive, perhaps a workbook (.xlsx), and no text.",
+                       "Take the AGS file out of the archive, or export a workbook as AGS4."]
+    if data[:4] == PDF:
+        return "PDF", ["The file is a PDF, and no AGS text.", "Send the AGS file itself."]
+    if data[:2] == b"\x1f\x8b":
+        return "gzip", ["The file is packed by gzip.", "Unpack it first (gzip -d)."]
+    if re.match(rb"\s*<(!DOCTYPE|html|\?xml)", data[:200], re.I):
+        return "HTML", ["The file is HTML or XML, such as a page that a download left in its place, and no AGS text.",
+                        "Download or export the AGS file again."]
+    return None
+
+
 def kind_of(file):
     """A name and sentences that say what the file is; the name is None for a text of AGS4."""
     data, said = file.data, []
-    if data[:4] == ZIP:
-        return "ZIP", ["The file is a ZIP archive or a workbook (.xlsx), and no text: take the AGS file out of it, or "
-                       "export it as AGS4."]
-    if data[:4] == PDF:
-        return "PDF", ["The file is a PDF, and no AGS text."]
-    if data[:2] == b"\x1f\x8b":
-        return "gzip", ["The file is packed by gzip: unpack it first."]
-    if re.match(rb"\s*<(!DOCTYPE|html|\?xml)", data[:200], re.I):
-        return "HTML", ["The file is HTML or XML, such as a page that a download left in its place, and no AGS text."]
+    found = packed(data)
+    if found:
+        return found
     text, encoding = decoded(data)
     if encoding == "UTF-16":
         return encoding, ["The file is UTF-16 (\"Unicode text\" of a spreadsheet): two bytes a character, so that no "
                           "line can be read.",
-                          "Save it as plain text in ASCII, with CR LF, or convert it (iconv -f UTF-16 -t "
-                          "ASCII//TRANSLIT FILE > NEW), then look for ?"]
+                          "Save it as plain text in ASCII, with CR LF (in Notepad++: Encoding, Convert to UTF-8, then "
+                          "Edit, EOL Conversion, Windows), or convert it (iconv -f UTF-16 -t ASCII//TRANSLIT FILE > "
+                          "NEW), then look for ?"]
     if is_ags3(file):
         return "AGS3", ["The file is AGS3: its groups begin with **, its headings with *. This checker reads AGS4.",
                         "Export it as AGS4 from the program that made it; changing single lines does not make it AGS4."]
-    if encoding != "ASCII":
+    strange = characters(text.removeprefix("\ufeff"))
+    if encoding != "ASCII" and strange:
         what = ("is UTF-8 with characters beyond ASCII" if encoding == "UTF-8"
                 else "is no UTF-8; it is read as Windows-1252 here")
-        said.append(f"The file {what}: {texts.count(len(characters(text.removeprefix(chr(0xfeff)))), 'character')}, "
-                    "named below.")
+        count = len({character for character, *_ in strange})
+        said.append(f"The file {what}: {texts.count(count, 'character')}, named below.")
     for sign, name in ((b",", "commas"), (b";", "semicolons"), (b"\t", "tabs")):
         if bare_descriptors(file, sign) >= 2:
             said.append(f"The file is a spreadsheet's CSV: fields between {name} without quotes. Each field of AGS4 is "
@@ -112,7 +106,7 @@ def kind_of(file):
     if data and b"\n" not in data and data.count(b"\r") > 2:
         return "CR", said + ["The lines end with CR alone, as on old Macintosh computers, so that the whole file is "
                              "one line."]
-    return encoding if encoding != "ASCII" else None, said
+    return encoding if strange else None, said
 
 
 def put_right(file):
@@ -122,5 +116,5 @@ def put_right(file):
     text = text.lstrip("\ufeff")
     text = re.sub(r"\r*\n", "\n", text) if "\n" in text else text.replace("\r", "\n")
     if not text.isascii():
-        text = re.sub(r"[^\x00-\x7f]", lambda found: "?" if spelling(found[0]) is None else spelling(found[0]), text)
+        text = "\n".join(line if line.isascii() else spellings.spelled(line, "?") for line in text.split("\n"))
     return text.replace("\n", "\r\n").encode("ascii")

@@ -2,7 +2,8 @@
 finding is."""
 import re
 
-from . import ags, kinds, texts
+import ags
+from . import kinds, texts
 from .near import difference
 
 FIELD = re.compile(rb' *"(?:[^"\r\n]|"")*" *')
@@ -61,7 +62,8 @@ def beyond_ascii(context, key, findings):
     if context.file.has_mark and encoding == "UTF-8" and "\ufeff" in text[1:]:
         here.append("One mark EF BB BF is passed over at the start of the file alone.")
     codepage = "WINDOWS-1252" if encoding == "Windows-1252" else "UTF-8"
-    fix = f"Write each in ASCII, as named here. iconv -f {codepage} -t ASCII//TRANSLIT writes ? for some."
+    fix = ("Write each in ASCII, as named here; bin/fix does so where a usual spelling is named. "
+           f"iconv -f {codepage} -t ASCII//TRANSLIT writes ? for some.")
     return encoding, here, fix
 
 
@@ -73,7 +75,9 @@ def line_ends(context, key, findings):
     else:
         here = [f"LF alone ends {alone:,} of {whole:,} lines, CR LF the others "
                 f"({texts.lines(f.line for f in findings)})."]
-    return "LF", here, None
+    return "LF", here, ("End each line with CR LF: in Notepad++ by Edit, EOL Conversion, Windows (CR LF); bin/fix "
+                        "does so "
+                        "too.")
 
 
 def descriptors(context, key, findings):
@@ -99,16 +103,18 @@ def descriptors(context, key, findings):
 def returns(context, key, findings):
     if key[1] == "no feed":
         return "CR", ["No line ends with LF: the lines end with CR alone, so that the whole file is one line."], \
-            "Save the file with CR LF at the end of each line, as mac2unix and then unix2dos do."
+            "End each line with CR LF: in Notepad++ by Edit, EOL Conversion, Windows (CR LF); bin/fix does so too."
     if key[1] == "last line":
         return "CR", ["The last line ends with CR alone: its LF is missing."], "End it with CR LF, or with nothing."
     if key[1] == "doubled":
         here = (f"{texts.count(len(findings), 'line')} with one CR too many before the line end, as after a conversion "
                 f"that was done twice ({texts.lines(f.line for f in findings)}).")
-        return "CR CR LF", [here], "Take the extra CR out, so that each line ends with one CR LF."
+        return "CR CR LF", [here], ("Take the extra CR out, so that each line ends with one CR LF: in Notepad++ "
+                                    "replace "
+                                    "\\r\\r\\n by \\r\\n (extended search); bin/fix does so too.")
     line = findings[0].line
     right = context.file.line(line).replace(b"\r", b" ")
-    fix = None if ags.fields_of(right) is None else f"Write line {line} as: {texts.clipped(ags.shown(right))}"
+    fix = None if ags.fields_of(right) is None else f"Write line {line} as: {ags.shown(right)}"
     return "CR", [f"A CR is within a field ({texts.lines(f.line for f in findings)})."], fix
 
 
@@ -120,13 +126,15 @@ def over_lines(context, findings):
     if len(spans) > 3:
         here.append(f"{len(spans) - 3:,} more rows that go on in the next line.")
     return ("line break", here,
-            f"Take the line break out: write lines {first} to {last} as one: {texts.clipped(ags.shown(joined), 200)}")
+            f"Take the line break out: write lines {first} to {last} as one: {ags.shown(joined)}")
 
 
 FIXES = {
-    "tab": "Take the tab out.", "tabs for commas": "Save the file as CSV with commas and every field in quotes.",
-    "no quotes": "Save the file with every field in quotes.",
-         "semicolons": "Save the file with commas, and every field in quotes.",
+    "tab": "Take the tab out.",
+    "tabs for commas": "Put each field in quotes, and commas between them: bin/fix does so.",
+    "no quotes": "Put each field in quotes: spreadsheets do not save them, and bin/fix writes them.",
+    "semicolons": "Put each field in quotes, and commas between them: spreadsheets do not save them so, and bin/fix "
+                  "does.",
     "AGS3": "Export the file as AGS4 from the program that made it.", "control": "Take the sign out.",
     "no row": "Take the line out, or begin it with its descriptor and put each field in quotes.",
     "padding": "Take the commas at the end out.", "unquoted": "Put each of these fields in quotes.",
@@ -146,7 +154,8 @@ def quotes(context, key, findings):
     if right == b"" and name in ("padding", "tab"):
         fix = "Make the line empty, or take it out."
     elif right:
-        fix = f"{fix} Write line {line} as: {texts.clipped(ags.shown(right))}"
+        more = f"{texts.lines(f.line for f in findings[1:])} alike" if len(findings) > 1 else ""
+        fix = f"{fix} Write line {line} as: {ags.shown(right)}{f' and {more}' if more else ''}"
     return name, here, fix
 
 

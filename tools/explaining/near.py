@@ -8,6 +8,7 @@ import re
 from decimal import Decimal, InvalidOperation
 
 LONGEST = 40
+LEAST_LIKE = 0.6
 NUMBER = re.compile(rb" *[+-]?[0-9]+(\.[0-9]*)? *")
 
 
@@ -66,6 +67,11 @@ def shortened(text, times):
     return out
 
 
+def likeness(one, other):
+    """How alike two texts are, from 0 to 1; capitals do not count."""
+    return difflib.SequenceMatcher(None, one.upper(), other.upper()).ratio()
+
+
 class Near:
     """The names of a list, indexed by what they are in normal form and by what is left of them without a character or
     two."""
@@ -101,7 +107,5 @@ class Near:
         if not found:
             return None
 
-        def likeness(name):
-            return difflib.SequenceMatcher(None, given.upper(), name.upper()).ratio()
-        best = max(sorted(found), key=likeness)
-        return best if likeness(best) >= 0.6 else None
+        best = max(sorted(found), key=lambda name: likeness(given, name))
+        return best if likeness(given, best) >= LEAST_LIKE else None

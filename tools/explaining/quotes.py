@@ -5,7 +5,8 @@
 import csv
 import re
 
-from . import ags, texts
+import ags
+from . import texts
 
 FIELD = rb'"(?:[^"]|"")*"'
 TOKEN = re.compile(rb' *("(?:[^"]|"")*"|[^",]*) *(?:,|$)')
@@ -47,7 +48,7 @@ def with_tabs(text):
     if right:
         return "tab", "a tab beside a field, where only spaces may be", right
     if b'"' not in text and text.split(b"\t")[0] in ags.DESCRIPTORS:
-        return "tabs for commas", "tabs between fields without quotes", b",".join(map(texts.quoted, text.split(b"\t")))
+        return "tabs for commas", "tabs between fields without quotes", b",".join(map(ags.quoted, text.split(b"\t")))
     return None
 
 
@@ -62,7 +63,7 @@ def of_a_spreadsheet(text, width):
             least = {"GROUP": 2, "HEADING": 2}.get(parts[0], len(parts) if width is None else width + 1)
             while len(parts) > least and not parts[-1].strip():
                 parts.pop()
-            return name, words, right_or_none(b",".join(texts.quoted(part.strip().encode("latin-1")) for part in parts))
+            return name, words, right_or_none(b",".join(ags.quoted(part.strip().encode("latin-1")) for part in parts))
     return None
 
 
@@ -89,7 +90,7 @@ def some_unquoted(text):
     if at < len(text):
         return None
     bare = [field for field in fields if field[:1] != b'"']
-    right = right_or_none(b",".join(field if field[:1] == b'"' else texts.quoted(field) for field in fields))
+    right = right_or_none(b",".join(field if field[:1] == b'"' else ags.quoted(field) for field in fields))
     if not bare or right is None:
         return None
     if not any(bare):
@@ -105,7 +106,7 @@ def quote_within(text):
     parts = re.split(rb'" *, *"', text[1:-1])
     inner = [part.replace(b'""', b'"') for part in parts]
     odd = [part for part, one in zip(parts, inner) if b'"' in one and part.replace(b'""', b"").count(b'"')]
-    right = right_or_none(b",".join(map(texts.quoted, inner)))
+    right = right_or_none(b",".join(map(ags.quoted, inner)))
     if not odd or right is None:
         return None
     if re.fullmatch(rb' *" *', odd[0][odd[0].find(b'"'):]) is None and b'" "' in text:
@@ -124,21 +125,57 @@ def unclosed(text):
 
 def mistake(content, width=None):
     """What is wrong with a line: a name that is the same for lines with the same mistake, words, and the line put
-    right or None.
-    `width` is how many headings the row has, where that is known."""
-    text = content.strip(b" ")
-    if re.fullmatch(rb"[,; ]+", text):
+    right or None. `width` is how many headings the row has, where that is known: nulls beyond them are cut."""
+    name, words, right = named(content.strip(b" "), width)
+    return name, words, right if right is None else trimmed(right, width)
+
+
+def trimmed(line, width):
+    """A row without the nulls at its end that are more than it has headings."""
+    fields = ags.fields_of(line) if line.endswith(b'""') else None
+    least = {b"GROUP": 2, b"HEADING": 2}.get(fields[0], width and width + 1) if fields else None
+    while least and len(fields) > least and not fields[-1]:
+        fields.pop()
+    return line if fields is None else ags.line_of(fields)
+
+
+def padded(text, width):
+    """What a line is with commas at its end: so many of them as headings are left are nulls."""
+    bare = text.rstrip(b", ")
+    if bare == text or right_or_none(bare) is None:
+        return None
+    commas, fields = text[len(bare):].count(b","), ags.fields_of(bare)
+    short = 0 if width is None or fields[0] in (b"GROUP", b"HEADING") else max(0, width + 1 - len(fields))
+    said = texts.count(commas, "comma")
+    if short:
+        return ("nothing between commas", f"{said} at the end, where a null is \"\"",
+                ags.line_of(fields + [b""] * min(short, commas)))
+    return "padding", f"{said} at the end, as spreadsheets pad short rows", bare
+
+
+def tabs(text, width):
+    """What a line with a tab beside a field is, also one with another mistake."""
+    without = re.sub(FIELD + rb"|\t", lambda found: b"" if found[0] == b"\t" else found[0], text).strip(b" ")
+    if without == text:
+        return None
+    found = with_tabs(text)
+    right = named(without, width)[2] if found is None and b'"' in text else None
+    return found if right is None else ("tab", "a tab beside a field, where only spaces may be", right)
+
+
+def named(text, width):
+    """What is wrong with a line, as `mistake` has it."""
+    if re.fullmatch(rb"[,; \t]*[,;][,; \t]*", text):
         return "padding", "commas alone, as spreadsheets pad an empty row", b""
-    found = with_tabs(text) if b"\t" in re.sub(FIELD, b"", text) else None
+    found = tabs(text, width) if b"\t" in text else None
     if found:
         return found
     found = of_a_spreadsheet(text, width)
     if found:
         return found
-    bare = text.rstrip(b", ")
-    if bare != text and right_or_none(bare):
-        return ("padding", f"{texts.count(text[len(bare):].count(b','), 'comma')} at the end, as spreadsheets pad "
-                           "short rows", bare)
+    found = padded(text, width)
+    if found:
+        return found
     if b'"' not in text and b"'" in text and right_or_none(text.replace(b"'", b'"')):
         return "single quotes", "single quotes, where double ones belong", text.replace(b"'", b'"')
     if b'"' not in text:

@@ -1,5 +1,5 @@
 """Small pieces of text that the explanations share: counts, lists of lines, values."""
-from . import ags
+import ags
 
 FEW = 3
 
@@ -56,7 +56,3 @@ def row(descriptor, items):
 
 def clipped(text, width=100):
     return text if len(text) <= width else text[:width - 3] + "..."
-
-
-def quoted(text):
-    return b'"' + text.replace(b'"', b'""') + b'"'

@@ -1,3 +1,5 @@
+mod caller;
+
 use ags_cells::{CellType, fits};
 use std::process::Abort;
 

@@ -1,5 +1,5 @@
 -- From the findings of the phases to the findings of a file.
-use Rattle.std.proofs.Common.{◌≡◌, ℕ, List, [], ◌++◌, length, take, refl, subst, sym, ap, ◌∙◌, inr, Result, Ok}
+use Rattle.std.proofs.Common.{◌≡◌, ℕ, List, [], ◌++◌, length, take, refl, subst, sym, ap, ◌∙◌, inr, Result, Ok, Err}
 use Rattle.std.specs.Prelude.{IfOk, OnOk}
 use Rattle.std.proofs.Math.Seq.{take-append_seam}
 use Rattle.std.proofs.lemmas.Result.{on_ok_weaker}
@@ -27,6 +27,12 @@ groups_found given entries bytes groups found read same first =
     let of_file : FirstFound (dictionary_phases given (extended given (contents_of read.0.groups)) read.0.groups) found =
     subst (λ (gs : List Group). FirstFound (dictionary_phases given (extended given (contents_of gs)) gs) found) (sym read.4) of_groups in
     (read.0, read.1, found_late (phases read.0) (dictionary_phases given (extended given (contents_of read.0.groups)) read.0.groups) found read.2 of_file)
+
+-- where a result says that they break nothing, there are no findings
+pub clear_groups : {T E : Type 0} (result : Result T E) (given entries : Entries) (bytes : List ℕ) (groups : List Group) → FileGroups bytes groups → entries ≡ extended given (contents_of groups)
+    → OnOk result (IsClear (StandsInDictionary given entries groups)) → OnOk result (IsClear (StandsInEntries entries groups)) → OnOk result (Findings given bytes [])
+clear_groups (Ok x) given entries bytes groups read same clear clear_rows = groups_found given entries bytes groups [] read same (inr (clear, inr (clear_rows, refl)))
+clear_groups (Err e) given entries bytes groups read same clear clear_rows = tt
 
 -- where neither the headers nor the rows break anything, the file is clean
 pub clean : (given entries : Entries) (bytes : List ℕ) (groups : List Group) (graph : StepGraph) → FileGroups bytes groups → entries ≡ extended given (contents_of groups)

@@ -35,8 +35,25 @@ pub fn check<'a>(
     // the groups are lent, so that few places hold what is proved of them
     let scan = read(alloc, bytes)?;
     let extended = dictionary.extend(&scan)?;
-    let graph = check_group_phases(alloc, dictionary, &extended, &scan)?;
+    let graph = graph_of_groups(alloc, dictionary, &extended, &scan)?;
     Ok(Checked::of(dictionary, bytes, scan, extended, graph))
+}
+
+/// The findings of the file under the dictionary: those of the first phase that has any, none where it is clean.
+/// The steps between its rows are not listed for them.
+pub fn findings(
+    alloc: Global,
+    dictionary: &Dictionary,
+    bytes: &[u8],
+) -> Result<FindingList, AllocError>
+    requires { length bytes.now ≤ READABLE }
+    ensures { IfOk result (Findings dictionary.now bytes.now) }
+{
+    match check_phases(alloc, dictionary, bytes) {
+        Ok(()) => Ok(FindingList::none(alloc)),
+        Err(CheckError::Findings(found)) => Ok(found),
+        Err(CheckError::NoMemory) => Err(AllocError),
+    }
 }
 
 /// Why a file is not taken.
@@ -80,9 +97,21 @@ fn read<'a>(alloc: Global, bytes: &'a [u8]) -> Result<Scan<'a>, CheckError>
     }
 }
 
+/// Whether the file breaks no rule under the dictionary, or all findings of the first phase that has any.
+fn check_phases(alloc: Global, dictionary: &Dictionary, bytes: &[u8]) -> Result<(), CheckError>
+    requires { length bytes.now ≤ READABLE }
+    ensures clean { OnOk result (Findings dictionary.now bytes.now []) }
+    ensures findings { HasFindings result (Findings dictionary.now bytes.now) }
+{
+    let scan = read(alloc, bytes)?;
+    let extended = dictionary.extend(&scan)?;
+    clear_index(alloc, dictionary, &extended, &scan)?;
+    Ok(())
+}
+
 /// The steps between the rows, if the groups break nothing of the last two phases, or all findings of the first of them
 /// that has any.
-fn check_group_phases(
+fn graph_of_groups(
     alloc: Global,
     given: &Dictionary,
     extended: &Dictionary,
@@ -93,10 +122,33 @@ fn check_group_phases(
     ensures rows { OnOk result (IsClear (StandsInEntries extended.now scan.now)) }
     ensures findings { HasFindings result (FirstFound (dictionary_phases given.now extended.now scan.now)) }
 {
+    let index = clear_index(alloc, given, extended, scan)?;
+    let graph = Graph::of(alloc, &index)?;
+    Ok(graph)
+}
+
+/// The index of the groups, if they break nothing of the last two phases, or all findings of the first of them that has
+/// any.
+fn clear_index<'s, 'f, 'd>(
+    alloc: Global,
+    given: &Dictionary,
+    extended: &'d Dictionary,
+    scan: &'s Scan<'f>,
+) -> Result<Index<'s, 'f, 'd>, CheckError>
+    ensures contents { IfOk result (λ index. index.contents ≡ contents_of scan.now) }
+    ensures entries { IfOk result (λ index. index.entries ≡ extended.now) }
+    ensures headers { OnOk result (IsClear (StandsInDictionary given.now extended.now scan.now)) }
+    ensures rows { OnOk result (IsClear (StandsInEntries extended.now scan.now)) }
+    ensures findings { HasFindings result (FirstFound (dictionary_phases given.now extended.now scan.now)) }
+{
     if let Err(e) = check_headers(alloc, given, extended, scan) {
         return Err(e);
     }
-    check_rows(alloc, extended, scan)
+    let index = Index::build(alloc, scan, extended)?;
+    if let Err(e) = check_rows(alloc, extended, scan, &index) {
+        return Err(e);
+    }
+    Ok(index)
 }
 
 /// Whether the groups break nothing of the fourth phase, or all its findings.
@@ -112,37 +164,19 @@ fn check_headers(
     phase(header_findings(alloc, given, extended, scan.groups()))
 }
 
-/// The steps between the rows, if these break nothing of the fifth phase, or all its findings. The index is lent, so
-/// that one place drops it: each would be proved anew, at length.
-fn check_rows(alloc: Global, dictionary: &Dictionary, scan: &Scan) -> Result<Graph, CheckError>
-    ensures graph { IfOk result (IsGraphOf (record { contents = contents_of scan.now; entries = dictionary.now })) }
-    ensures clear { OnOk result (IsClear (StandsInEntries dictionary.now scan.now)) }
-    ensures findings { HasFindings result (AreExactly (StandsInEntries dictionary.now scan.now)) }
-{
-    let index = Index::build(alloc, scan, dictionary)?;
-    check_indexed(alloc, dictionary, scan, &index)
-}
-
-/// The steps between the rows of an index, if these break nothing of the fifth phase, or all its findings.
-fn check_indexed(
+/// Whether the rows break nothing of the fifth phase, or all its findings.
+fn check_rows(
     alloc: Global,
     dictionary: &Dictionary,
     scan: &Scan,
     index: &Index,
-) -> Result<Graph, CheckError>
+) -> Result<(), CheckError>
     requires contents { index.now.contents ≡ contents_of scan.now }
     requires entries { index.now.entries ≡ dictionary.now }
-    ensures graph { IfOk result (IsGraphOf index.now) }
     ensures clear { OnOk result (IsClear (StandsInEntries dictionary.now scan.now)) }
     ensures findings { HasFindings result (AreExactly (StandsInEntries dictionary.now scan.now)) }
 {
-    if let Err(e) = phase(entry_findings(alloc, dictionary, index, scan.groups())) {
-        return Err(e);
-    }
-    match Graph::of(alloc, index) {
-        Ok(graph) => Ok(graph),
-        Err(_) => Err(CheckError::NoMemory),
-    }
+    phase(entry_findings(alloc, dictionary, index, scan.groups()))
 }
 
 /// Whether a phase has no finding, or all its findings.

@@ -9,4 +9,4 @@ mod named_groups;
 mod rows;
 
 pub use checked::Checked;
-pub use checking::{CheckError, check};
+pub use checking::{CheckError, check, findings};

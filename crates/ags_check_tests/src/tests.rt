@@ -1,9 +1,10 @@
-//! What `check` answers, as it is printed.
+//! What `check` and `findings` answer, as it is printed.
 
+mod caller;
 mod headers;
 mod rows;
 
-use ags_check::{CheckError, check};
+use ags_check::{CheckError, check, findings};
 use ags_dict::Dictionary;
 use ags_rows::vectors::{FILE_A, FILE_B, FILE_C, MINI};
 use ags_rows::{FindingList, READABLE};
@@ -106,6 +107,18 @@ fn checked(alloc: Global, mini: &Dictionary, file: &[u8]) -> Result<String, Allo
     }
 }
 
+/// What `findings` answers of a file, as it is printed.
+fn found(alloc: Global, mini: &Dictionary, file: &[u8]) -> Result<String, AllocError> {
+    if file.len() > READABLE {
+        return String::from_str(alloc, "too large");
+    }
+    let found = findings(alloc, mini, file)?;
+    if found.is_empty() {
+        return String::from_str(alloc, "clean");
+    }
+    listed(alloc, &found)
+}
+
 /// The file that is edited.
 #[derive(Clone, Copy)]
 pub(crate) enum Base {
@@ -142,11 +155,11 @@ fn agrees(alloc: Global, mini: &Dictionary, case: &Case) -> bool {
     }
 }
 
-/// Whether `check` answers a file as wanted.
+/// Whether `check` and `findings` answer a file as wanted.
 fn is_answered(alloc: Global, mini: &Dictionary, file: &[u8], want: &str) -> bool {
-    match checked(alloc, mini, file) {
-        Ok(found) => found.as_str() == want,
-        Err(_) => false,
+    match (checked(alloc, mini, file), found(alloc, mini, file)) {
+        (Ok(checked), Ok(found)) => checked.as_str() == want && found.as_str() == want,
+        _ => false,
     }
 }
 

@@ -1,8 +1,7 @@
 //! The check of the file that a stream carries.
 
-ghost use Rattle.std.specs.Prelude.{◌≡◌, ◌||◌, ◌+◌, ◌≤◌, IfOk, IfSome, length};
+ghost use Rattle.std.specs.Prelude.{◌≡◌, ◌||◌, ◌+◌, ◌≤◌, IfOk, IfSome};
 ghost use Rattle.ags_dict.specs.Mini.{mini_entries};
-ghost use Rattle.ags_check.specs.Findings.{Findings};
 ghost use Rattle.ags_cli.specs.Answers.{ReportsOn};
 ghost use Rattle.ags_cli.specs.Checking.{ChecksInput, ChecksStream};
 ghost use Rattle.ags_cli.specs.Faults.{is_stream_fault};
@@ -13,12 +12,12 @@ use crate::fault::Fault;
 use crate::input::read_file;
 use crate::report::{Report, findings_report};
 use crate::watched::Watched;
-use ags_check::{CheckError, check};
+use ags_check::findings;
 use ags_dict::laws::{mini_is_dictionary, one_dictionary};
 use ags_dict::{DictError, Dictionary};
+use ags_rows::LIMIT;
 use ags_rows::laws::one_list_of_findings;
 use ags_rows::vectors::MINI;
-use ags_rows::{FindingList, LIMIT};
 use std::alloc::{AllocError, Global};
 use std::io::{Read, Write};
 
@@ -84,22 +83,6 @@ fn report_on<R: Read>(
     ensures answers { IfSome (R.remaining input.old.inner) (λ bytes. ReportsOn dictionary.now bytes result) }
 {
     let bytes = read_file(alloc, input)?;
-    let found = findings_of(alloc, dictionary, bytes.as_slice())?;
+    let found = findings(alloc, dictionary, bytes.as_slice())?;
     Ok(findings_report(alloc, &found)?)
-}
-
-/// The findings of a file under a dictionary, none where it is clean.
-fn findings_of(
-    alloc: Global,
-    dictionary: &Dictionary,
-    bytes: &[u8],
-) -> Result<FindingList, AllocError>
-    requires { length bytes.now ≤ LIMIT }
-    ensures { IfOk result (λ found. Findings dictionary.now bytes.now found) }
-{
-    match check(alloc, dictionary, bytes) {
-        Ok(_) => Ok(FindingList::none(alloc)),
-        Err(CheckError::Findings(found)) => Ok(found),
-        Err(CheckError::NoMemory) => Err(AllocError),
-    }
 }

@@ -2,10 +2,10 @@
 use Rattle.std.proofs.Common.{◌≡◌, ℕ, zero, suc, ◌+◌, ◌<◌, ◌≤◌, Bool, true, false, cond, ◌&&◌, List, [], ◌∷◌, ◌++◌, length, get_or, map, take, Option, Some, None, slice_get, option_copied, Bor, refl, sym, ap, ◌∙◌, inl, inr}
 use Rattle.std.specs.List.{filter, find, list_any, filter_map, cons_option}
 use Rattle.std.specs.Str.{bytes_eq}
-use Rattle.std.specs.Option.{option_and_then, option_map_or, is_some, option_to_list}
+use Rattle.std.specs.Option.{option_and_then, option_map_or, option_or, is_some, option_to_list}
 use Rattle.std.proofs.lemmas.Bool.{cases_Bool}
 use Rattle.std.proofs.lemmas.List.{append-nil, length-map, map-append, take_more, take_all}
-use Rattle.std.proofs.lemmas.List.Folds.{list_any_more, list_any_at}
+use Rattle.std.proofs.lemmas.List.Folds.{list_any_more, list_any_at, find-append}
 use Rattle.std.proofs.lemmas.List.Elements.{filter-append, filter_map-append}
 use Rattle.ags_dict.specs.Index.{ArePlaces}
 
@@ -93,6 +93,14 @@ place_all test xs places h = map_places xs (filter test xs) places h
 pub first_passing : {X : Type 0} (test : X → Bool) (xs : List X) → slice_get (filter test xs) 0 ≡ find test xs
 first_passing test [] = refl
 first_passing test (x ∷ xs) = elim (cases_Bool (test x)) [ inl t ↦ rw t refl | inr f ↦ rw f (first_passing test xs) ]
+
+-- of two lists, one that the first has
+pub find_first : {X : Type 0} (p : X → Bool) (xs ys all : List X) (x : X) → find p xs ≡ Some x → xs ++ ys ≡ all → Some x ≡ find p all
+find_first {X} p xs ys all x h e = sym (find-append p xs ys ∙ ap (λ (o : Option X). option_or o (find p ys)) h) ∙ ap (find p) e
+
+-- of two lists, one that the first does not have
+pub find_after : {X : Type 0} (p : X → Bool) (xs ys all : List X) → find p xs ≡ None → xs ++ ys ≡ all → find p ys ≡ find p all
+find_after {X} p xs ys all h e = sym (find-append p xs ys ∙ ap (λ (o : Option X). option_or o (find p ys)) h) ∙ ap (find p) e
 
 pub find_both : {X : Type 0} (p q : X → Bool) (xs : List X) → find (λ x. p x && q x) xs ≡ find q (filter p xs)
 find_both p q [] = refl

@@ -1,5 +1,5 @@
 -- Maps from texts: what a change at one text leaves at any text.
-use Rattle.std.proofs.Common.{◌≡◌, ℕ, List, Bool, true, false, cond, Option, Some, None, refl, sym, ap, subst, ◌∙◌, ⊎_elim, inl, inr}
+use Rattle.std.proofs.Common.{◌≡◌, ℕ, List, Bool, true, false, cond, Option, sym, subst, ◌∙◌, ⊎_elim}
 use Rattle.std.specs.Ordering.{is_eq, nat_cmp}
 use Rattle.std.specs.Cmp.{eq_by_cmp_equiv}
 use Rattle.std.specs.Cmp.Lexicographic.{slice_cmp, bytes_decides, nat_list_cmp_total, nat_list_eq_equiv}
@@ -43,16 +43,3 @@ pub held_updates : {X : Type 0} (bs : List ℕ) (m n : BTreeMap (Vec ℕ Global)
 held_updates bs m n w h =
     by_bytes (value_at m) (value_at n) bs w h.1
     (λ cs e. other_entries _ _ _ _ h.3 _ (λ x y. (eq_by_cmp_equiv nat_list_cmp_total).congr cs x.items y.items) (λ k. apart_in_order bs cs k.items e))
-
--- a removal and an insertion at one text
-pub held_replaced : {X : Type 0} (bs ks : List ℕ) (m between n : BTreeMap (Vec ℕ Global) X) (x : X) → ks ≡ bs
-    → UpdatesBy (λ x y. slice_cmp nat_cmp x.items y.items) (λ k. slice_cmp nat_cmp bs k.items) m between None
-    → UpdatesBy (λ x y. slice_cmp nat_cmp x.items y.items) (λ k. slice_cmp nat_cmp ks k.items) between n (Some x)
-    → (cs : List ℕ) → value_at n cs ≡ cond (bytes_eq bs cs) (Some x) (value_at m cs)
-held_replaced {X} bs ks m between n x same out into cs =
-    let now : value_at n cs ≡ cond (bytes_eq bs cs) (Some x) (value_at between cs) =
-    held_updates ks between n (Some x) into cs ∙ ap (λ (k : List ℕ). cond (bytes_eq k cs) (Some x) (value_at between cs)) same in
-    elim (cases_Bool (bytes_eq bs cs)) [
-      | inl y ↦ now ∙ rw y refl
-      | inr e ↦ now ∙ rw e (held_updates bs m between None out cs ∙ rw e refl)
-    ]

@@ -12,7 +12,7 @@ use std::marker::Model;
 
 /// The entries of the standard dictionary, or of that and a file's own DICT, in their order.
 ///
-/// It keeps nothing of the bytes that it was read from.
+/// It keeps nothing of the bytes that it was read from. Dictionaries that extend one share its entries with it.
 pub struct Dictionary {
     pub(crate) alloc: Global,
     pub(crate) groups: GroupEntries,
@@ -40,14 +40,14 @@ impl Model for Dictionary {
 
 impl Dictionary {
     /// No entries.
-    pub(crate) fn empty(alloc: Global) -> Dictionary
-        ensures { result ≡ record { groups = []; headings = [] } }
+    pub(crate) fn empty(alloc: Global) -> Result<Dictionary, AllocError>
+        ensures { IfOk result (λ dictionary. dictionary ≡ record { groups = []; headings = [] }) }
     {
-        Dictionary {
+        Ok(Dictionary {
             alloc,
-            groups: GroupEntries::new(alloc),
-            headings: HeadingEntries::new(alloc),
-        }
+            groups: GroupEntries::new(alloc)?,
+            headings: HeadingEntries::new(alloc)?,
+        })
     }
 
     /// Its entries of groups, and those of headings.
@@ -63,14 +63,27 @@ impl Dictionary {
         (groups, headings)
     }
 
-    /// The same entries.
-    pub(crate) fn copied(&self) -> Result<Dictionary, AllocError>
-        ensures { IfOk result (λ copied. copied ≡ self.now) }
+    /// The same entries. Those that the dictionary was read from are shared, and not copied.
+    pub(crate) fn again(&self) -> Result<Dictionary, AllocError>
+        ensures { IfOk result (λ again. again ≡ self.now) }
     {
         Ok(Dictionary {
             alloc: self.alloc,
-            groups: self.groups.copied(self.alloc)?,
-            headings: self.headings.copied(self.alloc)?,
+            groups: self.groups.again(self.alloc)?,
+            headings: self.headings.again(self.alloc)?,
+        })
+    }
+
+    /// The same entries, to be shared.
+    pub(crate) fn to_share(self) -> Result<Dictionary, AllocError>
+        ensures { IfOk result (λ shared. shared ≡ self) }
+    {
+        let alloc = self.alloc;
+        let (groups, headings) = self.into_parts();
+        Ok(Dictionary {
+            alloc,
+            groups: groups.to_share(alloc)?,
+            headings: headings.to_share(alloc)?,
         })
     }
 

@@ -16,7 +16,7 @@ impl Dictionary {
     pub fn extend(&self, scan: &Scan) -> Result<Dictionary, AllocError>
         ensures { IfOk result (λ dictionary. dictionary ≡ extended self.now (contents_of scan.now)) }
     {
-        take_contents(self.alloc, scan.groups(), self.copied()?)
+        take_contents(self.alloc, scan.groups(), self.again()?)
     }
 }
 

@@ -1,78 +1,60 @@
 //! The entries for groups.
 
-ghost use Rattle.std.specs.Prelude.{◌≡◌, [], ◌∷◌, ◌++◌, IfOk, length, option_copied, slice_get};
+ghost use Rattle.std.specs.Prelude.{◌≡◌, [], ◌∷◌, IfOk, length, option_copied};
 ghost use Rattle.std.specs.List.{find};
 ghost use Rattle.ags_dict.specs.Entries.{same_group, with_new};
 ghost use Rattle.ags_dict.specs.Index.{is_for};
 
+mod indexed;
+
 use crate::entries::GroupEntry;
-use crate::places::PlacesByText;
+use crate::groups::indexed::IndexedGroups;
 use std::alloc::{AllocError, Global};
 use std::marker::Model;
+use std::rc::Rc;
 
-/// The entries for groups in their order, found by the group's name.
+/// The entries for groups in their order: those that it shares with others, then its own.
 #[derive(Drop)]
 pub(crate) struct GroupEntries {
-    entries: Vec<GroupEntry>,
-    by_name: PlacesByText,
+    shared: Rc<IndexedGroups>,
+    own: IndexedGroups,
 }
 
 impl Model for GroupEntries {
-    ghost use Rattle.std.specs.Prelude.{List};
+    ghost use Rattle.std.specs.Prelude.{List, ◌++◌};
     ghost use Rattle.ags_dict.specs.declared.entries.GroupEntry.{GroupEntry};
 
     ghost Value = { List GroupEntry };
 
-    ghost use Rattle.ags_dict.specs.Index.{FindsGroups};
-
-    ghost view = { λ g. g.entries.items };
-
-    ghost invariant = { λ g. FindsGroups g.entries.items g.by_name };
+    ghost view = { λ g. g.shared.value ++ g.own };
 }
 
 impl GroupEntries {
     /// No entries.
-    pub(crate) fn new(alloc: Global) -> GroupEntries
-        ensures { result ≡ [] }
+    pub(crate) fn new(alloc: Global) -> Result<GroupEntries, AllocError>
+        ensures { IfOk result (λ entries. entries ≡ []) }
     {
-        GroupEntries {
-            entries: Vec::new(alloc),
-            by_name: PlacesByText::new(alloc),
-        }
+        Ok(GroupEntries {
+            shared: Rc::new(alloc, IndexedGroups::new(alloc))?,
+            own: IndexedGroups::new(alloc),
+        })
     }
 
     /// How many entries there are.
     pub(crate) fn len(&self) -> usize
         ensures { result ≡ length self.now }
     {
-        self.entries.len()
-    }
-
-    /// The entry at a place.
-    fn at(&self, place: usize) -> Option<&GroupEntry>
-        ensures { option_copied result ≡ slice_get self.now place }
-    {
-        self.entries.get(place)
+        self.shared.len() + self.own.len()
     }
 
     /// The group's entry.
     pub(crate) fn find(&self, group: &[u8]) -> Option<&GroupEntry>
         ensures { option_copied result ≡ find (is_for group.now) self.now }
     {
-        self.at(self.by_name.nth(group, 0)?)
-    }
-
-    /// The entries, and one more.
-    pub(crate) fn with(self, alloc: Global, entry: GroupEntry) -> Result<GroupEntries, AllocError>
-        ensures { IfOk result (λ entries. entries ≡ self ++ entry ∷ []) }
-    {
-        let GroupEntries {
-            mut entries,
-            mut by_name,
-        } = self;
-        by_name.note(alloc, entry.group.as_slice(), entries.len())?;
-        entries.push(entry)?;
-        Ok(GroupEntries { entries, by_name })
+        match self.shared.find(group) {
+            Some(entry) => Some(entry),
+            None => self.own.find(group),
+        }
     }
 
     /// The entries, and one more unless its group has one.
@@ -86,18 +68,32 @@ impl GroupEntries {
         if self.find(entry.group.as_slice()).is_some() {
             return Ok(self);
         }
-        self.with(alloc, entry)
+        let GroupEntries { shared, own } = self;
+        let own = own.with(alloc, entry)?;
+        Ok(GroupEntries { shared, own })
     }
 
-    /// The same entries.
-    pub(crate) fn copied(&self, alloc: Global) -> Result<GroupEntries, AllocError>
+    /// The same entries, of which only its own are copied.
+    pub(crate) fn again(&self, alloc: Global) -> Result<GroupEntries, AllocError>
         ensures { IfOk result (λ entries. entries ≡ self.now) }
     {
-        let mut copied = GroupEntries::new(alloc);
-        for entry in self.entries.iter() {
-            let entry = GroupEntry::of(alloc, entry.group.as_slice(), entry.parent.as_slice())?;
-            copied = copied.with(alloc, entry)?;
+        Ok(GroupEntries {
+            shared: self.shared.clone()?,
+            own: self.own.copied(alloc)?,
+        })
+    }
+
+    /// The same entries, all to be shared, unless some of them are shared already.
+    pub(crate) fn to_share(self, alloc: Global) -> Result<GroupEntries, AllocError>
+        ensures { IfOk result (λ entries. entries ≡ self) }
+    {
+        if self.shared.len() > 0 {
+            return Ok(self);
         }
-        Ok(copied)
+        let GroupEntries { shared: _, own } = self;
+        Ok(GroupEntries {
+            shared: Rc::new(alloc, own)?,
+            own: IndexedGroups::new(alloc),
+        })
     }
 }

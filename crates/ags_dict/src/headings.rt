@@ -1,63 +1,51 @@
 //! The entries for headings of groups.
 
-ghost use Rattle.std.specs.Prelude.{◌≡◌, [], ◌∷◌, ◌++◌, IfOk, OnOk, length, option_copied, slice_get, map, not, ◌&&◌};
+ghost use Rattle.std.specs.Prelude.{◌≡◌, [], ◌∷◌, IfOk, length, option_copied, map, not, ◌&&◌};
 ghost use Rattle.std.specs.List.{filter, find, list_any};
 ghost use Rattle.ags_rows.specs.Contents.{place_in};
 ghost use Rattle.ags_dict.specs.Entries.{same_heading, with_new};
-ghost use Rattle.ags_dict.specs.Index.{places_at, NotesPlace, NotesRank, of_group, is_named, is_of_other, is_heading};
+ghost use Rattle.ags_dict.specs.Index.{of_group, is_named, is_heading};
+
+mod indexed;
 
 use crate::entries::HeadingEntry;
-use crate::places::{PlacesByText, Ranks};
+use crate::headings::indexed::IndexedHeadings;
 use std::alloc::{AllocError, Global};
 use std::marker::Model;
+use std::rc::Rc;
 
-/// The entries for headings in their order, found by group, by heading, and by both.
+/// The entries for headings in their order: those that it shares with others, then its own.
 #[derive(Drop)]
 pub(crate) struct HeadingEntries {
-    entries: Vec<HeadingEntry>,
-    by_group: PlacesByText,
-    by_heading: PlacesByText,
-    ranks: Ranks,
+    shared: Rc<IndexedHeadings>,
+    own: IndexedHeadings,
 }
 
 impl Model for HeadingEntries {
-    ghost use Rattle.std.specs.Prelude.{List};
+    ghost use Rattle.std.specs.Prelude.{List, ◌++◌};
     ghost use Rattle.ags_dict.specs.declared.entries.HeadingEntry.{HeadingEntry};
 
     ghost Value = { List HeadingEntry };
 
-    ghost use Rattle.ags_dict.specs.Index.{FindsHeadings};
-
-    ghost view = { λ h. h.entries.items };
-
-    ghost invariant = { λ h. FindsHeadings h.entries.items h.by_group h.by_heading h.ranks };
+    ghost view = { λ h. h.shared.value ++ h.own };
 }
 
 impl HeadingEntries {
     /// No entries.
-    pub(crate) fn new(alloc: Global) -> HeadingEntries
-        ensures { result ≡ [] }
+    pub(crate) fn new(alloc: Global) -> Result<HeadingEntries, AllocError>
+        ensures { IfOk result (λ entries. entries ≡ []) }
     {
-        HeadingEntries {
-            entries: Vec::new(alloc),
-            by_group: PlacesByText::new(alloc),
-            by_heading: PlacesByText::new(alloc),
-            ranks: Ranks::new(alloc),
-        }
+        Ok(HeadingEntries {
+            shared: Rc::new(alloc, IndexedHeadings::new(alloc))?,
+            own: IndexedHeadings::new(alloc),
+        })
     }
 
     /// How many entries there are.
     pub(crate) fn len(&self) -> usize
         ensures { result ≡ length self.now }
     {
-        self.entries.len()
-    }
-
-    /// The entry at a place.
-    fn at(&self, place: usize) -> Option<&HeadingEntry>
-        ensures { option_copied result ≡ slice_get self.now place }
-    {
-        self.entries.get(place)
+        self.shared.len() + self.own.len()
     }
 
     /// The group's entries in their order.
@@ -68,12 +56,9 @@ impl HeadingEntries {
     ) -> Result<Vec<&HeadingEntry>, AllocError>
         ensures { IfOk result (λ found. map (λ e. e.now) found.items ≡ filter (of_group group.now) self.now) }
     {
-        let mut found = Vec::new(alloc);
-        for place in self.by_group.of(group) {
-            if let Some(entry) = self.at(*place) {
-                found.push(entry)?;
-            }
-        }
+        let mut found = self.shared.of_group(alloc, group)?;
+        let own = self.own.of_group(alloc, group)?;
+        found.extend_from_slice(&own)?;
         Ok(found)
     }
 
@@ -81,24 +66,21 @@ impl HeadingEntries {
     pub(crate) fn place_in_order(&self, group: &[u8], heading: &[u8]) -> Option<usize>
         ensures { result ≡ place_in (map (λ e. e.heading) (filter (of_group group.now) self.now)) heading.now }
     {
-        self.ranks.of(group, heading)
+        if let Some(place) = self.shared.place_in_order(group, heading) {
+            return Some(place);
+        }
+        let earlier = self.shared.count_of_group(group);
+        let place = self.own.place_in_order(group, heading)?;
+        Some(earlier + place)
     }
 
     /// The entry for a heading of a group.
     pub(crate) fn find(&self, group: &[u8], heading: &[u8]) -> Option<&HeadingEntry>
         ensures { option_copied result ≡ find (is_heading group.now heading.now) self.now }
     {
-        let rank = self.ranks.of(group, heading)?;
-        self.at(self.by_group.nth(group, rank)?)
-    }
-
-    /// Whether the entry at a place is for another group.
-    fn is_of_other(&self, place: usize, group: &[u8]) -> bool
-        ensures { result ≡ is_of_other self.now group.now place }
-    {
-        match self.at(place) {
-            Some(entry) => entry.group.as_slice() != group,
-            None => false,
+        match self.shared.find(group, heading) {
+            Some(entry) => Some(entry),
+            None => self.own.find(group, heading),
         }
     }
 
@@ -106,44 +88,7 @@ impl HeadingEntries {
     pub(crate) fn elsewhere(&self, group: &[u8], heading: &[u8]) -> bool
         ensures { result ≡ list_any (λ e. is_named heading.now e && not (of_group group.now e)) self.now }
     {
-        for place in self.by_heading.of(heading) {
-            if self.is_of_other(*place, group) {
-                return true;
-            }
-        }
-        false
-    }
-
-    /// The entries, and one more.
-    pub(crate) fn with(
-        self,
-        alloc: Global,
-        entry: HeadingEntry,
-    ) -> Result<HeadingEntries, AllocError>
-        ensures { IfOk result (λ entries. entries ≡ self ++ entry ∷ []) }
-    {
-        let HeadingEntries {
-            mut entries,
-            mut by_group,
-            mut by_heading,
-            mut ranks,
-        } = self;
-        note_place(
-            alloc,
-            entry.group.as_slice(),
-            entry.heading.as_slice(),
-            entries.len(),
-            &mut by_group,
-            &mut by_heading,
-            &mut ranks,
-        )?;
-        entries.push(entry)?;
-        Ok(HeadingEntries {
-            entries,
-            by_group,
-            by_heading,
-            ranks,
-        })
+        self.shared.elsewhere(group, heading) || self.own.elsewhere(group, heading)
     }
 
     /// The entries, and one more unless its group has one for its heading.
@@ -158,40 +103,32 @@ impl HeadingEntries {
         if self.find(group, entry.heading.as_slice()).is_some() {
             return Ok(self);
         }
-        self.with(alloc, entry)
+        let HeadingEntries { shared, own } = self;
+        let own = own.with(alloc, entry)?;
+        Ok(HeadingEntries { shared, own })
     }
 
-    /// The same entries.
-    pub(crate) fn copied(&self, alloc: Global) -> Result<HeadingEntries, AllocError>
+    /// The same entries, of which only its own are copied.
+    pub(crate) fn again(&self, alloc: Global) -> Result<HeadingEntries, AllocError>
         ensures { IfOk result (λ entries. entries ≡ self.now) }
     {
-        let mut copied = HeadingEntries::new(alloc);
-        for entry in self.entries.iter() {
-            let group = entry.group.as_slice();
-            let heading = entry.heading.as_slice();
-            let entry = HeadingEntry::of(alloc, group, heading, entry.status.as_slice())?;
-            copied = copied.with(alloc, entry)?;
-        }
-        Ok(copied)
+        Ok(HeadingEntries {
+            shared: self.shared.clone()?,
+            own: self.own.copied(alloc)?,
+        })
     }
-}
 
-/// Notes the place of an entry for a heading of a group.
-fn note_place(
-    alloc: Global,
-    group: &[u8],
-    heading: &[u8],
-    place: usize,
-    by_group: &mut PlacesByText,
-    by_heading: &mut PlacesByText,
-    ranks: &mut Ranks,
-) -> Result<(), AllocError>
-    ensures groups { OnOk result (NotesPlace group.now place by_group.old by_group.new) }
-    ensures headings { OnOk result (NotesPlace heading.now place by_heading.old by_heading.new) }
-    ensures orders { OnOk result (NotesRank group.now heading.now (length (places_at by_group.old group.now))
-        ranks.old ranks.new) }
-{
-    ranks.note(alloc, group, heading, by_group.of(group).len())?;
-    by_group.note(alloc, group, place)?;
-    by_heading.note(alloc, heading, place)
+    /// The same entries, all to be shared, unless some of them are shared already.
+    pub(crate) fn to_share(self, alloc: Global) -> Result<HeadingEntries, AllocError>
+        ensures { IfOk result (λ entries. entries ≡ self) }
+    {
+        if self.shared.len() > 0 {
+            return Ok(self);
+        }
+        let HeadingEntries { shared: _, own } = self;
+        Ok(HeadingEntries {
+            shared: Rc::new(alloc, own)?,
+            own: IndexedHeadings::new(alloc),
+        })
+    }
 }

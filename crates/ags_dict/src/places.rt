@@ -48,11 +48,11 @@ impl PlacesByText {
     ) -> Result<(), AllocError>
         ensures { OnOk result (NotesPlace text.now place self.old self.new) }
     {
-        let mut places = match self.held.remove(text) {
-            Some(places) => places,
-            None => Vec::new(alloc),
-        };
-        places.push(place)?;
+        if let Some(places) = self.held.get_mut(text) {
+            places.push(place)?;
+            return Ok(());
+        }
+        let places = vec![in alloc; place]?;
         let text = Vec::from_slice(alloc, text)?;
         self.held.insert(text, places)?;
         Ok(())
@@ -108,11 +108,13 @@ impl Ranks {
     ) -> Result<(), AllocError>
         ensures { OnOk result (PutsRank group.now heading.now rank self.old self.new) }
     {
-        let mut of_group = match self.held.remove(group) {
-            Some(of_group) => of_group,
-            None => BTreeMap::new(alloc),
-        };
-        of_group.insert(Vec::from_slice(alloc, heading)?, rank)?;
+        let heading = Vec::from_slice(alloc, heading)?;
+        if let Some(of_group) = self.held.get_mut(group) {
+            of_group.insert(heading, rank)?;
+            return Ok(());
+        }
+        let mut of_group = BTreeMap::new(alloc);
+        of_group.insert(heading, rank)?;
         let group = Vec::from_slice(alloc, group)?;
         self.held.insert(group, of_group)?;
         Ok(())

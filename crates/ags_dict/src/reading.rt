@@ -1,12 +1,12 @@
 //! Reading a dictionary.
 
-ghost use Rattle.std.specs.Prelude.{◌≡◌, ◌≤◌, ℕ, List, length};
+ghost use Rattle.std.specs.Prelude.{◌≡◌, ◌≤◌, ℕ, List, length, IfOk};
 ghost use Rattle.std.specs.List.{list_any};
 ghost use Rattle.std.specs.Str.{bytes_eq};
 ghost use Rattle.ags_rows.specs.Contents.{group_contents, contents_of};
 ghost use Rattle.ags_rows.specs.Findings.{LooseGroups};
 ghost use Rattle.ags_dict.specs.declared.reading.DictError.TheVariants.{NoMemory};
-ghost use Rattle.ags_dict.specs.Entries.{has_dict, has_dict_headings, is_incomplete, lacks_heading};
+ghost use Rattle.ags_dict.specs.Entries.{has_dict, has_dict_headings, is_incomplete, lacks_heading, entries_of_file};
 ghost use Rattle.ags_dict.specs.Reading.{ReadsDictionary};
 
 use crate::dictionary::Dictionary;
@@ -71,10 +71,18 @@ fn of_groups(alloc: Global, groups: &[Group]) -> Result<Dictionary, DictError>
     if lacks_heading(groups) {
         return Err(DictError::MissingHeading);
     }
-    match take_contents(alloc, groups, Dictionary::empty(alloc)) {
+    match entries_of(alloc, groups) {
         Ok(dictionary) => Ok(dictionary),
         Err(_) => Err(DictError::NoMemory),
     }
+}
+
+/// The entries of these groups.
+fn entries_of(alloc: Global, groups: &[Group]) -> Result<Dictionary, AllocError>
+    ensures { IfOk result (λ dictionary. dictionary ≡ entries_of_file (contents_of groups.now)) }
+{
+    let dictionary = take_contents(alloc, groups, Dictionary::empty(alloc)?)?;
+    dictionary.to_share()
 }
 
 /// Whether one of the groups is DICT.

@@ -1,3 +1,5 @@
+mod caller;
+
 use ags_dict::{DictError, Dictionary};
 use ags_rows::vectors::{FILE_A, MINI};
 use ags_rows::{FindingList, READABLE, Scan};

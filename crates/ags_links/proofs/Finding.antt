@@ -1,10 +1,12 @@
 -- The index, one more row at a time.
 use Rattle.std.proofs.Common.{◌≡◌, ℕ, ◌+◌, ◌<◌, ◌≤◌, Bool, true, false, cond, List, [], ◌∷◌, ◌++◌, length, take, get_or, map, sym, ap, subst, ◌∙◌, arith, inl, inr, ◌⊎◌, ◌↔◌, Contains, append-nil, Result, Ok, Err, IfOk}
+use Rattle.std.specs.List.{filter}
 use Rattle.std.specs.Str.{bytes_eq}
 use Rattle.std.specs.List.Sorted.{IsStrictlyIncreasing}
+use Rattle.std.proofs.lemmas.Bool.{cases_Bool}
 use Rattle.std.proofs.lemmas.Slice.Eq.{bytes_eq-Decides}
-use Rattle.std.proofs.lemmas.List.{take_more, length-take-le, length-map, map_more, take_all, get_or_default, get_or-take}
-use Rattle.std.proofs.lemmas.List.Elements.{Contains-push, Contains-push_cases, Contains-append_cases, Contains-append_left}
+use Rattle.std.proofs.lemmas.List.{take_more, length-take-le, length-map, map-append, map_more, take_all, get_or_default, get_or-take}
+use Rattle.std.proofs.lemmas.List.Elements.{Contains-push, Contains-push_cases, Contains-append_cases, Contains-append_left, filter-append}
 use Rattle.ags_links.specs.Lookups.{Lookup}
 use Rattle.ags_links.specs.declared.placed.PlacedRow.{PlacedRow}
 use Rattle.ags_rows.specs.Collecting.{At}
@@ -151,6 +153,33 @@ finds_number old new Has rows numbers i x text lt rises so_far added row here on
       | inl was ↦ inl (was, h.1)
       | inr is ↦ inr (is, only q (subst (λ r. Has r q) (one_at rows m h.1.0 x h.1.1 (subst (λ (k : ℕ). At rows k x) is row)) h.1.2))
     ])
+
+-- the row of the next number has no text
+pub finds_over_number : (old : Lookup) (Has : DataRow → List ℕ → Type 0) (rows : List DataRow) (numbers : List ℕ) (i : ℕ) (x : DataRow) → i < length numbers → Finds old (HasAmong (take i numbers) rows Has) → At rows (get_or numbers i 0) x → ((q : List ℕ) → Has x q → ⊥)
+    → Finds old (HasAmong (take (i + 1) numbers) rows Has)
+finds_over_number old Has rows numbers i x lt so_far row none =
+    let n = get_or numbers i 0 in
+    let next = take_more numbers i 0 lt in
+    record {
+      rising = so_far.rising;
+      exact = λ q m. (
+        λ h. let was = (so_far.exact q m).0 h in (subst (λ l. Contains l m) (sym next) (Contains-append_left (take i numbers) (n ∷ []) m was.0), was.1),
+        λ h. elim (Contains-push_cases (take i numbers) n m (subst (λ l. Contains l m) next h.0)) [
+          | inl was ↦ (so_far.exact q m).1 (was, h.1)
+          | inr is ↦ absurd (none q (subst (λ r. Has r q) (one_at rows m h.1.0 x h.1.1 (subst (λ (k : ℕ). At rows k x) is row)) h.1.2))
+        ],
+      );
+    }
+
+-- one pair more
+pub one_added : (old new : Lookup) (text : List ℕ) (n : ℕ) → new ≡ old ++ (text, n) ∷ [] → IsAdded old new text n
+one_added old new text n e q =
+    ap (λ l. found l q) e
+    ∙ ap (map (λ (p : List ℕ × ℕ). p.1)) (filter-append (λ (p : List ℕ × ℕ). bytes_eq p.0 q) old ((text, n) ∷ []))
+    ∙ map-append (λ (p : List ℕ × ℕ). p.1) (filter (λ (p : List ℕ × ℕ). bytes_eq p.0 q) old) (filter (λ (p : List ℕ × ℕ). bytes_eq p.0 q) ((text, n) ∷ []))
+    ∙ ap (λ l. found old q ++ l) last where
+      last : found ((text, n) ∷ []) q ≡ cond (bytes_eq text q) (n ∷ []) []
+      last = elim (cases_Bool (bytes_eq text q)) [ inl e ↦ rw e | inr e ↦ rw e ]
 
 pub finds_no_number : (lookup : Lookup) (Has : DataRow → List ℕ → Type 0) (rows : List DataRow) → ((q : List ℕ) → found lookup q ≡ []) → Finds lookup (HasAmong [] rows Has)
 finds_no_number lookup Has rows empty = finds_none lookup (HasAmong [] rows Has) empty (λ m q h. omega (arith, h.0.1))

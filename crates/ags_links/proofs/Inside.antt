@@ -1,12 +1,11 @@
 -- What an index keeps, said of the file that contracts see.
-use Rattle.std.proofs.Common.{◌≡◌, ℕ, All, get_or, ◌<◌, List, length, map, sym, ap, subst, ◌∙◌, arith}
+use Rattle.std.proofs.Common.{◌≡◌, ℕ, All, get_or, ◌<◌, List, length, map, sym, ap, subst, ◌∙◌}
 use Rattle.std.proofs.lemmas.List.{length-map}
 use Rattle.ags_rows.specs.declared.rows.Group.{Group}
 use Rattle.ags_rows.specs.Contents.{contents_of}
 use Rattle.ags_dict.specs.Entries.{Entries}
 use Rattle.ags_links.specs.declared.families.Family.{Family}
 use Rattle.ags_links.specs.declared.parents.ParentLists.{ParentLists}
-use Rattle.ags_links.specs.declared.parents.ParentLookups.{ParentLookups}
 use Rattle.ags_links.specs.declared.lookup.Span.{Span}
 use Rattle.ags_links.specs.Lookups.{Lookup}
 use Rattle.ags_links.specs.declared.placed.PlacedRow.{PlacedRow}
@@ -15,7 +14,7 @@ use Rattle.ags_rows.specs.Collecting.{At}
 use Rattle.ags_links.specs.DataRows.{DataFile, DataRow}
 use Rattle.ags_links.specs.Families.{AreKept, HasText, HasKeyText, HasFileSet, AreFamilies}
 use Rattle.ags_links.specs.Keys.{AreFirstsOfKeys}
-use Rattle.ags_links.specs.ParentRows.{AreParents, IsParentList, HasLookup}
+use Rattle.ags_links.specs.ParentRows.{IsParentList}
 use Rattle.ags_links.specs.Indexing.{Indexes, rows_in}
 use Rattle.ags_links.specs.Lookups.{Finds}
 use Rattle.ags_links.specs.Placing.{IsPlaced, row_of}
@@ -51,10 +50,3 @@ rows_below rows found n e lt = subst (λ count. n < count) (sym (ap length e) �
 -- the group of a row is at the row's place
 pub group_at : (groups : List Group) (rows : List PlacedRow) (found : List DataRow) (n : ℕ) (x : PlacedRow) → map row_of rows ≡ found → n < length found → All (IsPlaced groups) rows → x ≡ get_or rows n x → At groups x.place x.group.now
 group_at groups rows found n x e lt placed is = placed_at groups rows n x placed (rows_below rows found n e lt, sym is)
-
--- each row's group has a look-up for its parent rows
-pub have_lookups : (groups : List Group) (entries : Entries) (rows : List PlacedRow) (parents : ParentLookups) → AreParents entries rows groups parents → All (IsPlaced groups) rows → All (HasLookup parents) rows
-have_lookups groups entries rows parents parented placed i d lt =
-    let row = get_or rows i d in
-    let at_group : At groups row.place row.group.now = placed i d lt in
-    (omega (arith, at_group.0, parented.each_has), λ links at_links. (parented.each row.place row.group.now links at_group at_links).stands.0)

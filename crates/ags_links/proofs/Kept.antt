@@ -54,7 +54,7 @@ kept_none Has kept e = record {
 }
 
 -- one more
-kept_more : {G X : Type 0} (Has : ℕ → G → X → Type 0) (groups : List G) (kept : List X) (g : G) (y : X) → AreKept groups kept Has → Has (length groups) g y → AreKept (groups ++ g ∷ []) (kept ++ y ∷ []) Has
+pub kept_more : {G X : Type 0} (Has : ℕ → G → X → Type 0) (groups : List G) (kept : List X) (g : G) (y : X) → AreKept groups kept Has → Has (length groups) g y → AreKept (groups ++ g ∷ []) (kept ++ y ∷ []) Has
 kept_more Has groups kept g y so_far here = record {
   each_has = omega (arith, so_far.each_has, length_push groups g, length_push kept y);
   each = λ place group x h k. elim (at_cases groups g place group h) [

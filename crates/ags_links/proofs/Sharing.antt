@@ -11,7 +11,6 @@ use Rattle.ags_links.specs.declared.families.Family.{Family}
 use Rattle.ags_links.specs.Lookups.{Lookup}
 use Rattle.ags_links.specs.declared.parents.ParentLinks.{ParentLinks}
 use Rattle.ags_links.specs.declared.parents.LinkPlaces.{LinkPlaces}
-use Rattle.ags_links.specs.declared.parents.ParentLookups.{ParentLookups}
 use Rattle.ags_rows.specs.Collecting.{At}
 use Rattle.ags_links.specs.DataRows.{DataRow}
 use Rattle.ags_links.specs.Families.{AreKept, AreFamilies, HasText, HasGroupName, HasEntries, HasAmong}
@@ -78,34 +77,34 @@ headings_to by_group entries rows g l (Some p) n s finds is row e =
 
 -- ---- all groups
 
-pub parents_made : (entries : Entries) (kept : List PlacedRow) (groups : List Group) (by_group : Lookup) (families : List Family) (links : List ParentLinks) (texts : List (List ℕ)) (parents : ParentLookups) → AreFamilies entries groups families
-    → Finds by_group (HasText (map row_of kept) HasGroupName) → AreParentLinks entries by_group groups links → texts ≡ texts_in links → AreLookups kept parents.of_groups.items links parents.lookups.items → AreKept links parents.of_groups.items (IsPlacedAt families texts)
-    → AreParents entries kept groups parents
-parents_made entries kept groups by_group families links texts parents of_groups finds linked are looked placed = record {
+pub parents_made : (entries : Entries) (kept : List PlacedRow) (groups : List Group) (by_group : Lookup) (families : List Family) (links : List ParentLinks) (texts : List (List ℕ)) (of_groups : List LinkPlaces) (lookups : List Lookup) → AreFamilies entries groups families
+    → Finds by_group (HasText (map row_of kept) HasGroupName) → AreParentLinks entries by_group groups links → texts ≡ texts_in links → AreLookups kept of_groups links lookups → AreKept links of_groups (IsPlacedAt families texts)
+    → AreParents entries kept groups of_groups lookups
+parents_made entries kept groups by_group families links texts of_groups lookups of_families finds linked are looked placed = record {
   each_has = placed.each_has ∙ linked.each_has;
   each = λ place g x at_group at_x. made place g x at_group at_x;
 } where
-  made : (place : ℕ) (g : Group) (x : LinkPlaces) → At groups place g → At parents.of_groups.items place x → IsParentIndex entries kept parents.of_groups.items parents.lookups.items g x
+  made : (place : ℕ) (g : Group) (x : LinkPlaces) → At groups place g → At of_groups place x → IsParentIndex entries kept of_groups lookups g x
   made place g x at_group at_x =
       let l = some_at links place (omega (arith, at_group.0, linked.each_has)) in
-      let family = some_at families place (omega (arith, at_group.0, of_groups.each_has)) in
+      let family = some_at families place (omega (arith, at_group.0, of_families.each_has)) in
       let is : IsParentLinks entries by_group g l.0 = linked.each place g l.0 at_group l.1 in
       let at : IsPlacedAt families texts place l.0 x = placed.each place l.0 x l.1 at_x in
       let first = at_place texts l.0.text.items x.lookup at.1 in
       let below : x.lookup < length links = omega (arith, first.0, ap length are, length-map links (λ (k : ParentLinks). k.text.items)) in
       let k = some_at links x.lookup below in
       let h = some_at groups x.lookup (omega (arith, below, linked.each_has)) in
-      let lookup = some_at parents.lookups.items x.lookup (omega (arith, below, looked.each_has)) in
+      let lookup = some_at lookups x.lookup (omega (arith, below, looked.each_has)) in
       let text : ◌≡◌ {A = List ℕ} k.0.text.items l.0.text.items = map_at (λ (k : ParentLinks). k.text.items) links x.lookup k.0 l.0.text.items k.1 (subst (λ ts. At ts x.lookup l.0.text.items) are (first.0, first.1)) in
       let same = alike entries by_group h.0 g k.0 l.0 (parent_of entries h.0.name) (parent_of entries g.name) (linked.each x.lookup h.0 k.0 h.1 k.1) is text in
-      let IsAsked : List ℕ → Type 0 = IsAskedOf kept parents.of_groups.items x.lookup in
+      let IsAsked : List ℕ → Type 0 = IsAskedOf kept of_groups x.lookup in
       let among : FindsAsked lookup.0 IsAsked (HasAmong k.0.rows.now (map row_of kept) (HasEntries (link_names k.0))) = looked.each x.lookup k.0 lookup.0 k.1 lookup.1 in
       let mine : FindsAsked lookup.0 IsAsked (HasAmong l.0.rows.now (map row_of kept) (HasEntries (link_names l.0))) = subst (λ ns. FindsAsked lookup.0 IsAsked (HasAmong ns (map row_of kept) (HasEntries (link_names l.0)))) same.0 (subst (λ names. FindsAsked lookup.0 IsAsked (HasAmong k.0.rows.now (map row_of kept) (HasEntries names))) same.1 among) in
       record {
         names = link_names l.0;
         lookup = lookup.0;
         stands = lookup.1;
-        places = at.0 family.0 family.1 ∙ ap (λ hs. map (place_in hs) (link_names l.0)) (of_groups.each place g family.0 at_group family.1).headings;
+        places = at.0 family.0 family.1 ∙ ap (λ hs. map (place_in hs) (link_names l.0)) (of_families.each place g family.0 at_group family.1).headings;
         headings = λ n s row e. headings_to by_group entries (map row_of kept) g l.0 (parent_of entries g.name) n s finds is row e;
         finds = found_in_parent by_group lookup.0 IsAsked entries (map row_of kept) g l.0 finds is mine;
       }

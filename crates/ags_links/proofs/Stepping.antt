@@ -1,5 +1,5 @@
 -- The steps of a row, and of all rows.
-use Rattle.std.proofs.Common.{◌≡◌, ℕ, ◌+◌, ◌-◌, ◌<◌, ◌≤◌, Bool, true, false, not, List, [], ◌++◌, length, get_or, map, refl, sym, ap, subst, ◌∙◌, arith, inl, inr, ◌⊎◌, ◌↔◌, Contains, codes, ◌&&◌}
+use Rattle.std.proofs.Common.{◌≡◌, ℕ, zero, suc, ◌+◌, ◌-◌, ◌<◌, ◌≤◌, ◌^◌, Bool, true, false, not, List, [], ◌++◌, length, get_or, map, refl, sym, ap, subst, ◌∙◌, arith, inl, inr, ◌⊎◌, ◌↔◌, Contains, codes, ◌&&◌}
 use Rattle.std.specs.List.Sorted.{IsStrictlyIncreasing}
 use Rattle.std.specs.Str.{bytes_eq}
 use Rattle.std.proofs.lemmas.Bool.{true≢false, cases_lt, and_from, and_parts, not-true}
@@ -16,7 +16,9 @@ use Rattle.ags_links.specs.Steps.{StepAt, IsBefore, ListsSteps}
 use Rattle.ags_links.specs.Walks.{InRange}
 use Rattle.ags_links.proofs.Linking.{adds_then, adds_same, adds_none, adds_listed, once_lists}
 use Rattle.ags_links.proofs.Members.{contains_map, map_contains}
+use Rattle.ags_links.proofs.Rising.{earlier_is_below}
 use Rattle.ags_links.proofs.RowLemmas.{one_at}
+use Rattle.ags_rows.proofs.Lemmas.{none_is}
 
 -- ---- rows of FILE
 
@@ -60,27 +62,58 @@ no_link_steps file n r old row defines = adds_none old (IsLinkStepAt file n) (λ
 
 -- ---- all steps of a row
 
-pub all_steps : (file : DataFile) (n : ℕ) (parents first second third once : List ℕ) → first ≡ parents → ListsRows parents (IsParentAt file n) → AddsRows first second (IsLinkStepAt file n) → AddsRows second third (IsFileStepAt file n)
-    → ((m : ℕ) → Contains once m ↔ Contains third m) → IsStrictlyIncreasing once → ListsRows once (StepAt file n)
-all_steps file n parents first second third once e lists links files same rises =
-    let IsEither = λ (m : ℕ). IsParentAt file n m ⊎ IsLinkStepAt file n m in
-    once_lists [] third once (StepAt file n) refl
-    (adds_then [] second third IsEither (IsFileStepAt file n) (StepAt file n)
-    (adds_then [] first second (IsParentAt file n) (IsLinkStepAt file n) IsEither (adds_listed [] first parents (IsParentAt file n) e lists) links (λ m h. inl h) (λ m h. inr h) (λ m h. h))
-    files
-    (λ m h. elim h [
-      | inl parent ↦ (parent.0, parent.1, parent.2, parent.3, inl parent.4)
-      | inr link ↦ (link.0, link.1, link.2, link.3, inr (inl link.4))
-    ])
-    (λ m h. (h.0, h.1, h.2, h.3, inr (inr h.4)))
-    (λ m h. elim h.4 [
-      | inl parent ↦ inl (inl (h.0, h.1, h.2, h.3, parent))
-      | inr more ↦ elim more [
-        | inl link ↦ inl (inr (h.0, h.1, h.2, h.3, link))
-        | inr to_file ↦ inr (h.0, h.1, h.2, h.3, to_file)
-      ]
-    ]))
+-- a step by a link or by a file set
+abbrev IsOtherStep : DataFile → ℕ → ℕ → Type 0
+IsOtherStep file n m = IsLinkStepAt file n m ⊎ IsFileStepAt file n m
+
+other_step : (file : DataFile) (n m : ℕ) → IsOtherStep file n m → StepAt file n m
+other_step file n m h = elim h [
+  | inl link ↦ (link.0, link.1, link.2, link.3, inr (inl link.4))
+  | inr to_file ↦ (to_file.0, to_file.1, to_file.2, to_file.3, inr (inr to_file.4))
+]
+
+parent_step : (file : DataFile) (n m : ℕ) → IsParentAt file n m → StepAt file n m
+parent_step file n m h = (h.0, h.1, h.2, h.3, inl h.4)
+
+which_step : (file : DataFile) (n m : ℕ) → StepAt file n m → IsOtherStep file n m ⊎ IsParentAt file n m
+which_step file n m h = elim h.4 [
+  | inl parent ↦ inr (h.0, h.1, h.2, h.3, parent)
+  | inr more ↦ elim more [
+    | inl link ↦ inl (inl (h.0, h.1, h.2, h.3, link))
+    | inr to_file ↦ inl (inr (h.0, h.1, h.2, h.3, to_file))
+  ]
+]
+
+other_steps : (file : DataFile) (n : ℕ) (first second third : List ℕ) → first ≡ [] → AddsRows first second (IsLinkStepAt file n) → AddsRows second third (IsFileStepAt file n)
+    → AddsRows [] third (IsOtherStep file n)
+other_steps file n first second third none links files =
+    adds_then [] second third (IsLinkStepAt file n) (IsFileStepAt file n) (IsOtherStep file n)
+    (subst (λ l. AddsRows l second (IsLinkStepAt file n)) none links) files (λ m h. inl h) (λ m h. inr h) (λ m h. h)
+
+-- the links' and the file set's rows, and then the parent rows
+pub all_steps : (file : DataFile) (n : ℕ) (first second third fourth once parents : List ℕ) → first ≡ [] → AddsRows first second (IsLinkStepAt file n) → AddsRows second third (IsFileStepAt file n)
+    → ListsRows parents (IsParentAt file n) → fourth ≡ third ++ parents → ((m : ℕ) → Contains once m ↔ Contains fourth m) → IsStrictlyIncreasing once → ListsRows once (StepAt file n)
+all_steps file n first second third fourth once parents none links files lists e same rises =
+    once_lists [] fourth once (StepAt file n) refl
+    (adds_then [] third fourth (IsOtherStep file n) (IsParentAt file n) (StepAt file n) (other_steps file n first second third none links files)
+    (adds_listed third fourth parents (IsParentAt file n) e lists) (other_step file n) (parent_step file n) (which_step file n))
     same rises
+
+-- where the links and the file set give none, the parent rows alone
+pub parents_alone : (file : DataFile) (n : ℕ) (first second third parents : List ℕ) → first ≡ [] → AddsRows first second (IsLinkStepAt file n) → AddsRows second third (IsFileStepAt file n)
+    → ListsRows parents (IsParentAt file n) → third ≡ [] → ListsRows parents (StepAt file n)
+parents_alone file n first second third parents none links files lists empty =
+    let others = other_steps file n first second third none links files in
+    record {
+      rising = lists.rising;
+      exact = λ m. (
+        λ h. parent_step file n m ((lists.exact m).0 h),
+        λ h. elim (which_step file n m h) [
+          | inl other ↦ absurd (none_is m (subst (λ l. Contains l m) empty (others.all m other)))
+          | inr parent ↦ (lists.exact m).1 parent
+        ],
+      );
+    }
 
 -- ---- the steps of all rows
 
@@ -157,3 +190,41 @@ steps_in_range file steps rows e so_far k d lt =
     let p = get_or steps k d in
     let step = ((so_far.exact p.0 p.1).0 (Contains-get_or steps k d lt)).1 in
     (omega (arith, e, step.2.0), omega (arith, e, step.3.0))
+
+-- ---- how many they are
+
+-- the k-th of rising numbers is at least k
+at_least : (xs : List ℕ) → IsStrictlyIncreasing xs → (k : ℕ) → k < length xs → k ≤ get_or xs k 0
+at_least xs rises zero lt = omega arith
+at_least xs rises (suc k) lt =
+    let before = at_least xs rises k (omega (arith, lt)) in
+    let next = earlier_is_below xs k (suc k) rises (omega arith) lt in
+    omega (arith, before, next)
+
+-- rising numbers below n are at most n
+pub rising_count : (xs : List ℕ) (n : ℕ) → IsStrictlyIncreasing xs → ((x : ℕ) → Contains xs x → x < n) → length xs ≤ n
+rising_count xs n rises below = elim (cases_lt 0 (length xs)) [
+  | inl some ↦
+      let k : (i : ℕ) × (length xs ≡ i + 1) = (length xs - 1, omega (arith, some)) in
+      let here : k.0 < length xs = omega (arith, k.1) in
+      let last = below (get_or xs k.0 0) (Contains-get_or xs k.0 0 here) in
+      let most = at_least xs rises k.0 here in
+      omega (arith, k.1, last, most)
+  | inr none ↦ omega (arith, none)
+]
+
+-- a row has fewer steps than 2 ^ 32
+pub few_steps : (file : DataFile) (n : ℕ) (rows : List ℕ) → length (rows_in file) < 2 ^ 32 → ListsRows rows (StepAt file n) → length rows < 2 ^ 32
+few_steps file n rows few lists =
+    let most = rising_count rows (length (rows_in file)) lists.rising (λ m h. let step = (lists.exact m).0 h in step.3.0) in
+    omega (arith, few, most)
+
+-- so many steps have the rows before the next
+abbrev pub CountsBefore : DataFile → ℕ → ℕ → Type 0
+CountsBefore file next count = (steps : List (ℕ × ℕ)) × ListsSteps steps (StepsBefore file next) × (count ≡ length steps)
+
+pub count_more : (file : DataFile) (row count new : ℕ) → CountsBefore file row count → ((rows : List ℕ) × ListsRows rows (StepAt file row) × (new ≡ length rows)) → CountsBefore file (row + 1) (count + new)
+count_more file row count new so_far more =
+    let steps = so_far.0 ++ map (from_row row) more.0 in
+    let size : length steps ≡ length so_far.0 + length more.0 = length-append so_far.0 (map (from_row row) more.0) ∙ ap (λ n. length so_far.0 + n) (length-map more.0 (from_row row)) in
+    (steps, steps_more file row more.0 so_far.0 steps so_far.1 more.1 refl, omega (arith, size, so_far.2, more.2))

@@ -3,6 +3,7 @@ pub mod Keys
 pub mod Parents
 pub mod RecordLinks
 pub mod Steps
+pub mod Stepped
 pub mod Walks
 pub mod Turns
 pub mod Work

@@ -1,6 +1,6 @@
 -- What the index keeps of the parent groups: their rows by their entries under link headings, in look-ups that the
 -- groups with one parent group and the same link headings share.
-use Rattle.std.specs.Prelude.{◌≡◌, ◌≢◌, ◌<◌, ◌≤◌, ◌-◌, ◌↔◌, ℕ, List, Vec, [], ◌∷◌, Option, Some, None, All, Contains, map, length, take, drop, slice_index_or}
+use Rattle.std.specs.Prelude.{◌≡◌, ◌≢◌, ◌<◌, ◌≤◌, ◌-◌, ◌↔◌, ◌⊎◌, ◌++◌, ℕ, List, Vec, [], ◌∷◌, Option, Some, None, All, Contains, map, length, take, drop, slice_index_or}
 use Rattle.std.specs.List.Sorted.{IsStrictlyIncreasing}
 use Rattle.std.specs.Borrow.{Bor}
 use Rattle.std.specs.declared.alloc.Global.{Global}
@@ -9,13 +9,11 @@ use Rattle.ags_rows.specs.declared.rows.Group.{Group}
 use Rattle.ags_dict.specs.Entries.{Entries, keys_of, parent_of}
 use Rattle.ags_links.specs.declared.families.Family.{Family}
 use Rattle.ags_links.specs.Lookups.{Lookup}
+use Rattle.ags_links.specs.declared.parents.HeadingPlaces.{HeadingPlaces}
 use Rattle.ags_links.specs.declared.parents.ParentLinks.{ParentLinks}
 use Rattle.ags_links.specs.declared.parents.LinkPlaces.{LinkPlaces}
 use Rattle.ags_links.specs.declared.lookup.Span.{Span}
-use Rattle.ags_links.specs.declared.parents.ParentLookups.{ParentLookups}
 use Rattle.ags_links.specs.declared.parents.ParentLists.{ParentLists}
-use Rattle.ags_links.specs.declared.parents.Users.{Users}
-use Rattle.ags_links.specs.declared.parents.Users.TheVariants.{Nobody, One, Many}
 use Rattle.ags_links.specs.declared.placed.PlacedRow.{PlacedRow}
 use Rattle.ags_rows.specs.Collecting.{At}
 use Rattle.ags_links.specs.DataRows.{DataRow, RowsRelate, ListsRows}
@@ -79,32 +77,25 @@ IsAskedOf rows of_groups lookup text =
     (n : ℕ) × (row : PlacedRow) × (links : LinkPlaces) × IsUserOf rows of_groups lookup n row links
     × (text_at links.places.items row ≡ text)
 
--- row n is among the users
-abbrev pub IsAmongUsers : Users → ℕ → Type 0
-IsAmongUsers Nobody n = ⊥
-IsAmongUsers (One m) n = m ≡ n
-IsAmongUsers Many n = Unit {0}
-
--- where there is just one user, it is among so many rows
-abbrev pub AreUsersBelow : ℕ → Users → Type 0
-AreUsersBelow count Nobody = Unit {0}
-AreUsersBelow count (One n) = n < count
-AreUsersBelow count Many = Unit {0}
-
 -- the row's group has link places, and a look-up at one of the places
 abbrev pub HasPlaces : List LinkPlaces → PlacedRow → Type 0
 HasPlaces of_groups row =
     (row.place < length of_groups) × ((links : LinkPlaces) → At of_groups row.place links
     → links.lookup < length of_groups)
 
--- the rows that have their parent rows in the look-up are among its users
-abbrev pub HasUsers : List PlacedRow → List LinkPlaces → ℕ → Users → Type 0
-HasUsers rows of_groups lookup users =
-    (n : ℕ) (row : PlacedRow) (links : LinkPlaces) → IsUserOf rows of_groups lookup n row links → IsAmongUsers users n
+-- some link places say so of row n
+abbrev pub IsUser : List PlacedRow → List LinkPlaces → ℕ → ℕ → Type 0
+IsUser rows of_groups lookup n =
+    (row : PlacedRow) × (links : LinkPlaces) × IsUserOf rows of_groups lookup n row links
 
-abbrev pub HaveUsers : List PlacedRow → List LinkPlaces → List Users → Type 0
+-- the list has exactly the rows that have their parent rows in the look-up
+abbrev pub HasUsers : List PlacedRow → List LinkPlaces → ℕ → List ℕ → Type 0
+HasUsers rows of_groups lookup users = (n : ℕ) → Contains users n ↔ IsUser rows of_groups lookup n
+
+abbrev pub HaveUsers : List PlacedRow → List LinkPlaces → List (Vec ℕ Global) → Type 0
 HaveUsers rows of_groups users =
-    (lookup : ℕ) (d : Users) → lookup < length users → HasUsers rows of_groups lookup (slice_index_or users lookup d)
+    (lookup : ℕ) (d : Vec ℕ Global) → lookup < length users
+    → HasUsers rows of_groups lookup (slice_index_or users lookup d).items
 
 -- of these numbers some are chosen, which rise; those of rows with this text of entries under the headings are among
 -- them
@@ -121,6 +112,32 @@ AreCandidatesFor rows links = AreCandidates (map row_of rows) links.rows.now (li
 -- row n is one of these rows, and the text its entries under the headings
 abbrev pub HasEntriesAmong : List ℕ → List PlacedRow → List (List ℕ) → ℕ → List ℕ → Type 0
 HasEntriesAmong numbers rows headings = HasAmong numbers (map row_of rows) (HasEntries headings)
+
+-- where some texts alone are asked for, the text is one of them
+abbrev pub IsAskedIn : Option (Bor Lookup) → List ℕ → Type 0
+IsAskedIn None text = Unit {0}
+IsAskedIn (Some asked) text = found asked.now text ≢ []
+
+-- row n is one of these rows, and the text, which is asked for, its entries under the headings
+abbrev pub HasAskedAmong : Option (Bor Lookup) → List ℕ → List PlacedRow → List (List ℕ) → ℕ → List ℕ → Type 0
+HasAskedAmong asked numbers rows headings =
+    HasAmong numbers (map row_of rows) (λ r text. HasEntries headings r text × IsAskedIn asked text)
+
+-- row n is added at the text, if this is asked for
+abbrev pub AddsAsked : Option (Bor Lookup) → List ℕ → ℕ → Lookup → Lookup → Type 0
+AddsAsked asked text n old new =
+    (IsAskedIn asked text × (new ≡ old ++ (text, n) ∷ [])) ⊎ (¬ (IsAskedIn asked text) × (new ≡ old))
+
+-- the texts at which these rows have their parent rows are among those that are asked for
+abbrev pub AreTextsOf : List PlacedRow → List LinkPlaces → List ℕ → Lookup → Type 0
+AreTextsOf rows of_groups users asked =
+    (n : ℕ) (row : PlacedRow) (links : LinkPlaces) → Contains users n → At rows n row → At of_groups row.place links
+    → found asked (text_at links.places.items row) ≢ []
+
+-- the places are those of the names in the headings of the group
+abbrev pub ArePlacesIn : List Family → List (List ℕ) → HeadingPlaces → Type 0
+ArePlacesIn families names stood =
+    (family : Family) → At families stood.place family → stood.places.items ≡ map (place_in family.headings) names
 
 -- row n is a row of the parent group, and the text its entries under the link headings
 abbrev pub HasLinkText : List PlacedRow → ParentLinks → ℕ → List ℕ → Type 0
@@ -157,29 +174,39 @@ pub record IsParentIndex (entries : Entries) (rows : List PlacedRow) (of_groups 
   pub finds : FindsAsked lookup (IsAskedOf rows of_groups links.lookup)
       (HasText (map row_of rows) (HasParentEntries entries group.name names))
 
-abbrev pub AreParents : Entries → List PlacedRow → List Group → ParentLookups → Type 0
-AreParents entries rows groups parents =
-    AreKept groups parents.of_groups.items
-    (λ place. IsParentIndex entries rows parents.of_groups.items parents.lookups.items)
-
--- the row's group has link places, and these a look-up
-abbrev pub HasLookup : ParentLookups → PlacedRow → Type 0
-HasLookup parents row = (row.place < length parents.of_groups.items)
-    × ((links : LinkPlaces) → At parents.of_groups.items row.place links → links.lookup < length parents.lookups.items)
+abbrev pub AreParents : Entries → List PlacedRow → List Group → List LinkPlaces → List Lookup → Type 0
+AreParents entries rows groups of_groups lookups =
+    AreKept groups of_groups (λ place. IsParentIndex entries rows of_groups lookups)
 
 -- the span is where the look-up of the row's group has the row's entries under its link headings
-abbrev pub IsParentSpan : ParentLookups → PlacedRow → Span → Type 0
-IsParentSpan parents row span =
-    (links : LinkPlaces) (lookup : Lookup) → At parents.of_groups.items row.place links
-    → At parents.lookups.items links.lookup lookup
+abbrev pub IsParentSpan : List LinkPlaces → List Lookup → PlacedRow → Span → Type 0
+IsParentSpan of_groups lookups row span =
+    (links : LinkPlaces) (lookup : Lookup) → At of_groups row.place links → At lookups links.lookup lookup
     → IsSpanOf lookup (text_at links.places.items row) span
 
-abbrev pub AreParentSpans : List PlacedRow → ParentLookups → List Span → Type 0
-AreParentSpans rows parents spans = AreKept rows spans (λ n. IsParentSpan parents)
+abbrev pub AreParentSpans : List PlacedRow → List LinkPlaces → List Lookup → List Span → Type 0
+AreParentSpans rows of_groups lookups spans = AreKept rows spans (λ n. IsParentSpan of_groups lookups)
+
+-- the spans of these rows are where the look-up has their entries under their link headings; those of other rows are
+-- as before
+pub record AreSpansOf (rows : List PlacedRow) (of_groups : List LinkPlaces) (lookup : Lookup) (users : List ℕ)
+    (old new : List Span) : Type 0 where
+  pub size : length new ≡ length old
+  pub noted : (n : ℕ) (row : PlacedRow) (links : LinkPlaces) (span : Span) → Contains users n → At rows n row
+      → At of_groups row.place links → At new n span → IsSpanOf lookup (text_at links.places.items row) span
+  pub kept : (n : ℕ) (d : Span) → ¬ (Contains users n) → slice_index_or new n d ≡ slice_index_or old n d
 
 -- of each look-up its rows
 abbrev pub AreRowsOf : List Lookup → List (Vec ℕ Global) → Type 0
 AreRowsOf lookups lists = AreKept lookups lists (λ place lookup list. list.items ≡ map (λ p. p.1) lookup)
+
+-- there is a look-up for each of the links; the lists are their rows, and the spans are in them
+pub record AreListed (rows : List PlacedRow) (of_groups : List LinkPlaces) (links : List ParentLinks)
+    (lists : List (Vec ℕ Global)) (spans : List Span) : Type 0 where
+  pub lookups : List Lookup
+  pub looked : AreLookups rows of_groups links lookups
+  pub alone : AreRowsOf lookups lists
+  pub spanned : AreParentSpans rows of_groups lookups spans
 
 -- the span is within the numbers
 abbrev pub IsInside : List ℕ → Span → Type 0

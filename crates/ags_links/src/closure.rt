@@ -6,6 +6,7 @@ ghost use Rattle.ags_links.specs.Turns.{turns_of, hidden_turns};
 ghost use Rattle.ags_links.specs.Work.{IsAdjacency, weigh, Looked, swapped};
 
 use crate::graph::Graph;
+use crate::lists::empty_lists;
 use std::alloc::{AllocError, Global};
 
 /// The rows reached from a marked row, marked rows included, and the turns: one for each of these rows, and one for
@@ -85,10 +86,7 @@ fn adjacent(alloc: Global, rows: usize, steps: &[(u32, u32)]) -> Result<Vec<Vec<
     ensures rows { IfOk result (λ beside. length beside.items ≡ rows) }
     ensures each { IfOk result (λ beside. IsAdjacency steps.now beside.items) }
 {
-    let mut beside = Vec::new(alloc);
-    for _ in 0..rows {
-        beside.push(Vec::new(alloc))?;
-    }
+    let mut beside = empty_lists(alloc, rows)?;
     for &(row, target) in steps {
         beside[row as usize].push(target)?;
     }

@@ -8,7 +8,7 @@ ghost use Rattle.ags_links.specs.Families.{HasFamily};
 ghost use Rattle.ags_links.specs.ParentRows.{AreNumbers};
 
 use crate::families::Family;
-use crate::parents::{ParentLinks, Users};
+use crate::parents::ParentLinks;
 use crate::placed::{PlacedRow, field};
 use ags_dict::Dictionary;
 use std::alloc::{AllocError, Global};
@@ -41,7 +41,7 @@ pub(crate) fn entry_lists<'l, 's>(
     rows: &[PlacedRow<'s, '_>],
     families: &[Family<'_, '_>],
     links: &[ParentLinks<'l, 's>],
-    users: &[Users],
+    users: &[Vec<u32>],
 ) -> Result<EntryLists<'l, 's>, AllocError>
     requires kept { All (HasFamily dictionary.now families.now) rows.now }
     requires numbers { All (AreNumbers (length rows.now)) links.now }
@@ -54,7 +54,7 @@ pub(crate) fn entry_lists<'l, 's>(
         room: rows.len().saturating_mul(ENTRIES_A_ROW),
     };
     for (place, of_group) in links.iter().enumerate() {
-        if let Users::One(_) = users[place] {
+        if users[place].len() == 1 {
             add_list(alloc, dictionary, rows, families, of_group, &mut lists)?;
         }
     }

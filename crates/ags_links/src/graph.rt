@@ -1,6 +1,10 @@
 //! Numbered rows and the steps between them.
 
-ghost use Rattle.std.specs.Prelude.{◌≡◌, ◌<◌, ◌↔◌, ◌^◌, ◌++◌, IfOk, IfSome, IsSome, OnOk, map};
+ghost use Rattle.std.specs.Prelude.{◌≡◌, ◌<◌, ◌↔◌, ◌^◌, ◌++◌, ℕ, List, IfOk, IfSome, IsSome, OnOk, length, map};
+ghost use Rattle.ags_links.specs.DataRows.{ListsRows};
+ghost use Rattle.ags_links.specs.Indexing.{rows_in};
+ghost use Rattle.ags_links.specs.Steps.{IsGraphOf, StepAt};
+ghost use Rattle.ags_links.specs.Walks.{StepGraph};
 
 use crate::index::Index;
 use crate::steps::rows_stepped_to;
@@ -42,14 +46,16 @@ impl Graph {
         Some(Graph { rows, steps })
     }
 
-    /// The rows of a file, and all steps between them, sorted, each once.
+    /// The rows of a file, and all steps between them, sorted, each once. The steps are counted before they are listed, so
+    /// that a list for which there is no memory is refused before it is begun.
     pub fn of(alloc: Global, index: &Index<'_, '_, '_>) -> Result<Graph, AllocError>
         ensures { IfOk result (IsGraphOf index.now) }
     {
         let rows = index.row_count();
-        let mut steps = Vec::new(alloc);
+        let mut steps = Vec::with_capacity(alloc, step_count(alloc, index)?)?;
         for row in 0..rows {
-            add_steps(&mut steps, row, &rows_stepped_to(alloc, index, row)?)?;
+            let targets = rows_stepped_to(alloc, index, row)?;
+            add_steps(&mut steps, row, targets.rows())?;
         }
         Ok(Graph { rows, steps })
     }
@@ -71,6 +77,29 @@ impl Graph {
         let _rows = self.rows;
         &self.steps
     }
+}
+
+/// How many steps the rows of a file have.
+pub fn step_count(alloc: Global, index: &Index<'_, '_, '_>) -> Result<usize, AllocError>
+    ensures { IfOk result (λ count. (graph : StepGraph) × IsGraphOf index.now graph × (count ≡ length graph.steps)) }
+{
+    let mut count = 0;
+    for row in 0..index.row_count() {
+        count += count_from(alloc, index, row)?;
+    }
+    Ok(count)
+}
+
+/// How many steps a row has.
+fn count_from(alloc: Global, index: &Index<'_, '_, '_>, row: u32) -> Result<usize, AllocError>
+    requires row { row < length (rows_in index.now) }
+    requires rows { length (rows_in index.now) < 2 ^ 32 }
+    ensures steps { IfOk result (λ count.
+        (rows : List ℕ) × ListsRows rows (StepAt index.now row) × (count ≡ length rows)) }
+    ensures few { IfOk result (λ count. count < 2 ^ 32) }
+{
+    let targets = rows_stepped_to(alloc, index, row)?;
+    Ok(targets.rows().len())
 }
 
 /// Adds a step from the row to each target.

@@ -9,6 +9,7 @@ mod graph;
 mod index;
 pub mod laws;
 mod listed_parents;
+mod lists;
 mod lookup;
 mod parents;
 mod placed;
@@ -17,7 +18,7 @@ mod steps;
 mod texts;
 
 pub use closure::{reached, shown};
-pub use graph::Graph;
+pub use graph::{Graph, step_count};
 pub use index::{Index, Targets};
 pub use separators::{Separators, separators_in};
 pub use texts::find_byte;

@@ -1,18 +1,19 @@
 //! The rows of the parent groups by their entries under link headings. Groups with one parent group and the same
 //! link headings share one look-up, so that the rows of a parent group are not read again for each of them.
 
-ghost use Rattle.std.specs.Prelude.{◌≡◌, ◌<◌, ◌^◌, ℕ, Contains, IfOk, All, Some, length, map, filter};
+ghost use Rattle.std.specs.Prelude.{◌≡◌, ◌<◌, ◌^◌, ◌↔◌, ℕ, Contains, IfOk, OnOk, IsTrue, All, Some, length, map, filter};
 ghost use Rattle.std.specs.List.Sorted.{IsStrictlyIncreasing};
 ghost use Rattle.ags_rows.specs.Contents.{place_in};
 ghost use Rattle.ags_links.specs.EntryLists.{IsEntryList};
 ghost use Rattle.ags_links.specs.Families.{HasText, HasGroupName, HasFamily, IsFamily, AreFamilies, AreKept, is_one_of};
-ghost use Rattle.ags_links.specs.Lookups.{Finds, FindsAsked};
-ghost use Rattle.ags_links.specs.ParentRows.{AreLinkHeadingsIfRows, text_at, IsParentLinks, AreParentLinks, texts_in, AreNumbers, IsAmongUsers, AreUsersBelow, HasUsers, HaveUsers, HasPlaces, HasEntriesAmong, HasLinkText, IsLookupAt, AreLookups, IsPlacedAt, AreParents, IsInside, part_of};
+ghost use Rattle.ags_links.specs.Lookups.{Finds, FindsAsked, pairs_of};
+ghost use Rattle.ags_links.specs.ParentRows.{AreLinkHeadingsIfRows, text_at, IsParentLinks, AreParentLinks, texts_in, AreNumbers, HasUsers, HaveUsers, HasPlaces, HasAskedAmong, HasLinkText, IsAskedIn, AddsAsked, AreTextsOf, ArePlacesIn, IsLookupAt, IsPlacedAt, IsInside, part_of};
 ghost use Rattle.ags_links.specs.Placing.{row_of, ListsTexts};
 
 use crate::candidates::candidates;
-use crate::entry_lists::{EntryLists, entry_lists};
+use crate::entry_lists::EntryLists;
 use crate::families::{Family, family_at, heading_places};
+use crate::lists::empty_lists;
 use crate::lookup::{Lookup, Span, rows_by_text, rows_with};
 use crate::placed::PlacedRow;
 use crate::texts::{names_text, push_entries};
@@ -37,19 +38,11 @@ pub(crate) struct LinkPlaces {
     pub(crate) lookup: usize,
 }
 
-/// The link places of each group, and the look-ups that they share.
+/// Where some headings are in the rows of the group at a place of the file.
 #[derive(Drop)]
-pub(crate) struct ParentLookups {
-    pub(crate) of_groups: Vec<LinkPlaces>,
-    pub(crate) lookups: Vec<Lookup>,
-}
-
-/// The rows that have their parent rows in one look-up.
-#[derive(Clone, Copy)]
-pub(crate) enum Users {
-    Nobody,
-    One(u32),
-    Many,
+pub(crate) struct HeadingPlaces {
+    pub(crate) place: usize,
+    pub(crate) places: Vec<Option<usize>>,
 }
 
 /// The link places of each group, and the rows of each look-up.
@@ -59,29 +52,8 @@ pub(crate) struct ParentLists {
     pub(crate) lists: Vec<Vec<u32>>,
 }
 
-/// For each group the rows of its parent group, by their entries under its link headings.
-pub(crate) fn parents(
-    alloc: Global,
-    groups: &[Group<'_>],
-    dictionary: &Dictionary,
-    rows: &[PlacedRow<'_, '_>],
-    families: &[Family<'_, '_>],
-    by_group: &Lookup,
-) -> Result<ParentLookups, AllocError>
-    requires few { length rows.now < 2 ^ 32 }
-    requires kept { All (HasFamily dictionary.now families.now) rows.now }
-    requires families { AreFamilies dictionary.now groups.now families.now }
-    requires by_group { Finds by_group.now (HasText (map row_of rows.now) HasGroupName) }
-    ensures { IfOk result (AreParents dictionary.now rows.now groups.now) }
-{
-    let links = all_parent_links(alloc, groups, dictionary, rows, families, by_group)?;
-    let of_groups = shared_places(alloc, families, &links)?;
-    let lookups = used_lookups(alloc, dictionary, rows, families, &links, &of_groups)?;
-    Ok(ParentLookups { of_groups, lookups })
-}
-
 /// The links of each group.
-fn all_parent_links<'l, 's>(
+pub(crate) fn all_parent_links<'l, 's>(
     alloc: Global,
     groups: &[Group<'_>],
     dictionary: &Dictionary,
@@ -193,7 +165,7 @@ fn in_byte_order(names: Vec<&[u8]>) -> Vec<&[u8]>
 }
 
 /// Where each group's link headings are in its rows, and which look-up it shares with the groups of the same links.
-fn shared_places(
+pub(crate) fn shared_places(
     alloc: Global,
     families: &[Family<'_, '_>],
     links: &[ParentLinks<'_, '_>],
@@ -246,70 +218,9 @@ fn first_with(texts: &Places<'_>, links: &ParentLinks<'_, '_>) -> usize
     texts.find(&links.text).unwrap()
 }
 
-/// The look-ups, one for each group, each for the rows that use it.
-fn used_lookups<'s>(
-    alloc: Global,
-    dictionary: &Dictionary,
-    rows: &[PlacedRow<'s, '_>],
-    families: &[Family<'_, '_>],
-    links: &[ParentLinks<'_, 's>],
-    of_groups: &[LinkPlaces],
-) -> Result<Vec<Lookup>, AllocError>
-    requires few { length rows.now < 2 ^ 32 }
-    requires kept { All (HasFamily dictionary.now families.now) rows.now }
-    requires grouped { All (HasPlaces of_groups.now) rows.now }
-    requires numbers { All (AreNumbers (length rows.now)) links.now }
-    requires size { length of_groups.now ≡ length links.now }
-    ensures { IfOk result (λ lookups. AreLookups rows.now of_groups.now links.now lookups.items) }
-{
-    let users = users_of(alloc, rows, of_groups)?;
-    let lists = entry_lists(alloc, dictionary, rows, families, links, &users)?;
-    lookups(
-        alloc, dictionary, rows, families, links, &lists, of_groups, &users,
-    )
-}
-
-/// The look-ups, one for each group, of which those that rows use are filled.
-fn lookups<'s>(
-    alloc: Global,
-    dictionary: &Dictionary,
-    rows: &[PlacedRow<'_, '_>],
-    families: &[Family<'_, '_>],
-    links: &[ParentLinks<'_, 's>],
-    lists: &EntryLists<'_, 's>,
-    of_groups: &[LinkPlaces],
-    users: &[Users],
-) -> Result<Vec<Lookup>, AllocError>
-    requires few { length rows.now < 2 ^ 32 }
-    requires kept { All (HasFamily dictionary.now families.now) rows.now }
-    requires grouped { All (HasPlaces of_groups.now) rows.now }
-    requires numbers { All (AreNumbers (length rows.now)) links.now }
-    requires lists { All (IsEntryList rows.now) lists.now.lists.items }
-    requires size { length users.now ≡ length links.now }
-    requires users { HaveUsers rows.now of_groups.now users.now }
-    requires below { All (AreUsersBelow (length rows.now)) users.now }
-    ensures { IfOk result (λ lookups. AreLookups rows.now of_groups.now links.now lookups.items) }
-{
-    let mut lookups = Vec::new(alloc);
-    for (place, of_group) in links.iter().enumerate() {
-        lookups.push(lookup_at(
-            alloc,
-            dictionary,
-            rows,
-            families,
-            of_group,
-            lists,
-            of_groups,
-            place,
-            users[place],
-        )?)?;
-    }
-    Ok(lookups)
-}
-
 /// The look-up at this place: by the entries that its users ask for, so that for one row it has no more than that
 /// needs.
-fn lookup_at<'s>(
+pub(crate) fn lookup_at<'s>(
     alloc: Global,
     dictionary: &Dictionary,
     rows: &[PlacedRow<'_, '_>],
@@ -318,40 +229,99 @@ fn lookup_at<'s>(
     lists: &EntryLists<'_, 's>,
     of_groups: &[LinkPlaces],
     place: usize,
-    users: Users,
+    users: &[u32],
 ) -> Result<Lookup, AllocError>
     requires few { length rows.now < 2 ^ 32 }
     requires kept { All (HasFamily dictionary.now families.now) rows.now }
     requires grouped { All (HasPlaces of_groups.now) rows.now }
     requires numbers { AreNumbers (length rows.now) links.now }
     requires lists { All (IsEntryList rows.now) lists.now.lists.items }
-    requires users { HasUsers rows.now of_groups.now place users }
-    requires below { AreUsersBelow (length rows.now) users }
+    requires users { HasUsers rows.now of_groups.now place users.now }
+    requires below { All (λ n. n < length rows.now) users.now }
     ensures { IfOk result (IsLookupAt rows.now of_groups.now place links.now) }
 {
     match users {
-        Users::Nobody => {
+        [] => {
             let none = rows_by_text(alloc, Vec::new(alloc))?;
             Ok(none)
         }
-        Users::One(number) => {
-            let row = &rows[number as usize];
+        [number] => {
+            let row = &rows[*number as usize];
             let places = &of_groups[row.place].places;
             let own = lookup_for(alloc, dictionary, rows, families, links, lists, row, places)?;
             Ok(own)
         }
-        Users::Many => {
-            let all = rows_by_entries(
-                alloc,
-                dictionary,
-                rows,
-                families,
-                &links.headings,
-                links.rows,
+        _ => {
+            let all = lookup_for_all(
+                alloc, dictionary, rows, families, links, of_groups, place, users,
             )?;
             Ok(all)
         }
     }
+}
+
+/// The look-up for several rows. Where they are few beside the rows of the parent group, those of these that no row asks
+/// for are left out.
+fn lookup_for_all(
+    alloc: Global,
+    dictionary: &Dictionary,
+    rows: &[PlacedRow<'_, '_>],
+    families: &[Family<'_, '_>],
+    links: &ParentLinks<'_, '_>,
+    of_groups: &[LinkPlaces],
+    place: usize,
+    users: &[u32],
+) -> Result<Lookup, AllocError>
+    requires few { length rows.now < 2 ^ 32 }
+    requires kept { All (HasFamily dictionary.now families.now) rows.now }
+    requires grouped { All (HasPlaces of_groups.now) rows.now }
+    requires numbers { AreNumbers (length rows.now) links.now }
+    requires users { HasUsers rows.now of_groups.now place users.now }
+    requires below { All (λ n. n < length rows.now) users.now }
+    ensures { IfOk result (IsLookupAt rows.now of_groups.now place links.now) }
+{
+    let headings = links.headings.as_slice();
+    let numbers = links.rows;
+    if users.len() < numbers.len() / FEW {
+        let asked = texts_asked(alloc, rows, of_groups, users)?;
+        let some = rows_by_entries(
+            alloc,
+            dictionary,
+            rows,
+            families,
+            headings,
+            numbers,
+            Some(&asked),
+        )?;
+        return Ok(some);
+    }
+    let all = rows_by_entries(alloc, dictionary, rows, families, headings, numbers, None)?;
+    Ok(all)
+}
+
+/// How many times as many rows the parent group has, where its users are few.
+const FEW: usize = 8;
+
+/// The texts at which rows have their parent rows.
+fn texts_asked(
+    alloc: Global,
+    rows: &[PlacedRow<'_, '_>],
+    of_groups: &[LinkPlaces],
+    users: &[u32],
+) -> Result<Lookup, AllocError>
+    requires grouped { All (HasPlaces of_groups.now) rows.now }
+    requires below { All (λ n. n < length rows.now) users.now }
+    ensures { IfOk result (AreTextsOf rows.now of_groups.now users.now) }
+{
+    let mut pairs = Vec::with_capacity(alloc, users.len())?;
+    for number in users {
+        let row = &rows[*number as usize];
+        let links = &of_groups[row.place];
+        let mut text = Vec::new(alloc);
+        push_entries(&mut text, row, &links.places)?;
+        pairs.push((text, *number))?;
+    }
+    rows_by_text(alloc, pairs)
 }
 
 /// The look-up for one row: by its entries, of the rows of the parent group that may be its parent rows.
@@ -373,10 +343,18 @@ fn lookup_for<'s>(
         (HasLinkText rows.now links.now)) }
 {
     let numbers = candidates(alloc, dictionary, rows, families, links, lists, row, places)?;
-    rows_by_entries(alloc, dictionary, rows, families, &links.headings, &numbers)
+    rows_by_entries(
+        alloc,
+        dictionary,
+        rows,
+        families,
+        &links.headings,
+        &numbers,
+        None,
+    )
 }
 
-/// These rows by their entries under the headings.
+/// These rows by their entries under the headings; of rows whose entries are not asked for, where some alone are, none.
 fn rows_by_entries(
     alloc: Global,
     dictionary: &Dictionary,
@@ -384,58 +362,98 @@ fn rows_by_entries(
     families: &[Family<'_, '_>],
     headings: &[&[u8]],
     numbers: &[u32],
+    asked: Option<&Lookup>,
 ) -> Result<Lookup, AllocError>
     requires few { length rows.now < 2 ^ 32 }
     requires kept { All (HasFamily dictionary.now families.now) rows.now }
     requires below { All (λ n. n < length rows.now) numbers.now }
     requires rising { IsStrictlyIncreasing numbers.now }
     ensures { IfOk result (λ lookup. Finds lookup
-        (HasEntriesAmong numbers.now rows.now (map (λ h. h.now) headings.now))) }
+        (HasAskedAmong asked.entry numbers.now rows.now (map (λ h. h.now) headings.now))) }
 {
-    let mut pairs = Vec::with_capacity(alloc, numbers.len())?;
+    let room = if asked.is_some() { 0 } else { numbers.len() };
+    let mut pairs = Vec::with_capacity(alloc, room)?;
     let mut entries = Vec::new(alloc);
+    let mut stood = HeadingPlaces {
+        place: families.len(),
+        places: Vec::new(alloc),
+    };
     for number in numbers {
         let row = &rows[*number as usize];
-        let places = heading_places(alloc, &families[row.place].headings, headings)?;
+        stood = places_at(alloc, families, headings, row.place, stood)?;
         entries.clear();
-        push_entries(&mut entries, row, &places)?;
-        let text = Vec::from_slice(alloc, &entries)?;
-        pairs.push((text, *number))?;
+        push_entries(&mut entries, row, &stood.places)?;
+        push_asked(alloc, asked, &entries, *number, &mut pairs)?;
     }
     rows_by_text(alloc, pairs)
 }
 
+/// Where the headings are in the rows of the group at this place. Those of the row before are taken where it is of the
+/// same group.
+fn places_at(
+    alloc: Global,
+    families: &[Family<'_, '_>],
+    headings: &[&[u8]],
+    place: usize,
+    before: HeadingPlaces,
+) -> Result<HeadingPlaces, AllocError>
+    requires place { place < length families.now }
+    requires before { ArePlacesIn families.now (map (λ h. h.now) headings.now) before }
+    ensures place { IfOk result (λ stood. stood.place ≡ place) }
+    ensures places { IfOk result (ArePlacesIn families.now (map (λ h. h.now) headings.now)) }
+{
+    if before.place == place {
+        return Ok(before);
+    }
+    let places = heading_places(alloc, &families[place].headings, headings)?;
+    Ok(HeadingPlaces { place, places })
+}
+
+/// Adds a row at its text, if this is asked for.
+fn push_asked(
+    alloc: Global,
+    asked: Option<&Lookup>,
+    text: &[u8],
+    number: u32,
+    pairs: &mut Vec<(Vec<u8>, u32)>,
+) -> Result<(), AllocError>
+    ensures { OnOk result (AddsAsked asked.entry text.now number (pairs_of pairs.old.items) (pairs_of pairs.new.items)) }
+{
+    if !is_asked(asked, text) {
+        return Ok(());
+    }
+    let own = Vec::from_slice(alloc, text)?;
+    pairs.push((own, number))?;
+    Ok(())
+}
+
+/// Whether the text is asked for.
+fn is_asked(asked: Option<&Lookup>, text: &[u8]) -> bool
+    ensures { IsTrue result ↔ IsAskedIn asked.entry text.now }
+{
+    match asked {
+        Some(lookup) => !rows_with(lookup, text).is_empty(),
+        None => true,
+    }
+}
+
 /// For each look-up the rows that have their parent rows in it.
-fn users_of(
+pub(crate) fn users_of(
     alloc: Global,
     rows: &[PlacedRow<'_, '_>],
     of_groups: &[LinkPlaces],
-) -> Result<Vec<Users>, AllocError>
+) -> Result<Vec<Vec<u32>>, AllocError>
     requires few { length rows.now < 2 ^ 32 }
     requires grouped { All (HasPlaces of_groups.now) rows.now }
     ensures size { IfOk result (λ users. length users.items ≡ length of_groups.now) }
     ensures users { IfOk result (λ users. HaveUsers rows.now of_groups.now users.items) }
-    ensures below { IfOk result (λ users. All (AreUsersBelow (length rows.now)) users.items) }
 {
-    let mut users = vec![in alloc; Users::Nobody; of_groups.len()]?;
+    let mut users = empty_lists(alloc, of_groups.len())?;
     for (number, row) in rows.iter().enumerate() {
         let lookup = of_groups[row.place].lookup;
-        let before = users[lookup];
-        users[lookup] = with_user(before, number as u32);
+        users[lookup].push(number as u32)?;
     }
     Ok(users)
-}
-
-/// The users, and one more row.
-fn with_user(users: Users, number: u32) -> Users
-    ensures new { IsAmongUsers result number }
-    ensures old { (n : ℕ) → IsAmongUsers users n → IsAmongUsers result n }
-    ensures below { (count : ℕ) → AreUsersBelow count users → number < count → AreUsersBelow count result }
-{
-    match users {
-        Users::Nobody => Users::One(number),
-        _ => Users::Many,
-    }
 }
 
 /// The numbers of a span.

@@ -7,25 +7,50 @@ ghost use Rattle.ags_text.specs.Names.{is_definition};
 ghost use Rattle.ags_links.specs.Adding.{AddsRows};
 ghost use Rattle.ags_links.specs.DataRows.{ListsRows};
 ghost use Rattle.ags_links.specs.Indexing.{rows_in, IsNamedAmong, IsLinkedAt, IsLinkStepAt, IsFileStepAt};
+ghost use Rattle.ags_links.specs.Stepped.{rows_of};
 ghost use Rattle.ags_links.specs.Steps.{StepAt};
 
 use crate::index::{Index, each_once};
 use ags_rows::is_definition;
 use std::alloc::{AllocError, Global};
 
-/// The rows that a row steps to, rising, each once.
-pub(crate) fn rows_stepped_to(
+/// The rows that a row steps to: those that the index has as its parent rows, or a list.
+#[derive(Drop)]
+pub(crate) enum SteppedTo<'i> {
+    Parents(&'i [u32]),
+    Listed(Vec<u32>),
+}
+
+impl<'i> SteppedTo<'i> {
+    /// The rows, rising, each once.
+    pub(crate) fn rows(&self) -> &[u32]
+        ensures { result.now ≡ rows_of self.now }
+    {
+        match self {
+            SteppedTo::Parents(rows) => rows,
+            SteppedTo::Listed(rows) => rows.as_slice(),
+        }
+    }
+}
+
+/// The rows that a row steps to. Parent rows alone are not copied.
+pub(crate) fn rows_stepped_to<'i>(
     alloc: Global,
-    index: &Index<'_, '_, '_>,
+    index: &'i Index<'_, '_, '_>,
     row: u32,
-) -> Result<Vec<u32>, AllocError>
+) -> Result<SteppedTo<'i>, AllocError>
     requires { row < length (rows_in index.now) }
-    ensures { IfOk result (λ rows. ListsRows rows.items (StepAt index.now row)) }
+    ensures { IfOk result (λ stepped. ListsRows (rows_of stepped) (StepAt index.now row)) }
 {
-    let mut found = Vec::from_slice(alloc, index.parent_rows(row))?;
+    let mut found = Vec::new(alloc);
     add_link_steps(index, row, &mut found)?;
     add_file_steps(index, row, &mut found)?;
-    Ok(each_once(found))
+    let parents = index.parent_rows(row);
+    if found.is_empty() {
+        return Ok(SteppedTo::Parents(parents));
+    }
+    found.extend_from_slice(parents)?;
+    Ok(SteppedTo::Listed(each_once(found)))
 }
 
 /// Adds the rows that the row steps to by its record links, if it is in a data group.

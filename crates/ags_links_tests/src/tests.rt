@@ -1,4 +1,5 @@
 //! The worked examples of graphs. Where memory wants, no answer is the wanted one.
+mod caller;
 mod files;
 
 use ags_links::{Graph, reached, shown};

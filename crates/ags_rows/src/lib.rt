@@ -23,7 +23,7 @@ pub use places::Places;
 pub use rows::{Descriptor, Group, Row};
 pub use scanning::{RowsError, Scan};
 pub use spelling::{cells, push_cells};
-pub use writing::{write_field, write_group, write_line, write_row};
+pub use writing::{quote, write_group, write_line, write_row};
 
 /// The greatest length of a deposited file, in bytes: 16 MiB.
 pub const LIMIT: usize = 16_777_216;

@@ -7,16 +7,23 @@
 
 mod commands;
 mod connection;
-mod front;
+mod listener;
 mod log;
+mod log_file;
 mod moment;
 mod progress;
+mod record;
+mod reload;
 mod serving;
 mod stores;
 mod timed;
+mod verify;
+mod version;
 
 pub use commands::{Machine, run_words};
+pub use listener::Listener;
 pub use log::Log;
 pub use progress::ProgressLines;
-pub use serving::{Serving, serve_on};
+pub use reload::{Look, Reload};
+pub use serving::{Running, Serving, serve_on};
 pub use stores::Registers;

@@ -2,7 +2,7 @@
 
 use ags_cli::Watched;
 use reg_store::Progress;
-use std::alloc::{AllocError, Global};
+use std::alloc::Global;
 use std::io::Write;
 use std::time::{Clock, Duration, Instant};
 
@@ -48,8 +48,8 @@ impl<'c, 'e, C: Clock, E: Write> ProgressLines<'c, 'e, C, E> {
 
     /// Says how many bytes are read. No clause says so.
     pub fn say_bytes(&mut self, bytes: u64) {
-        if let Ok(line) = bytes_line(self.alloc, bytes) {
-            self.say(&line);
+        if let Ok(line) = format!(in self.alloc; "reading {bytes} bytes\n") {
+            self.say(line.as_bytes());
         }
     }
 
@@ -83,11 +83,13 @@ impl<'c, 'e, C: Clock, E: Write> ProgressLines<'c, 'e, C, E> {
 
     /// Says how many deposits are checked, which took so long, and how long the others will take.
     fn say_estimate(&mut self, checked: u32, count: u32, taken: Duration) {
-        let Some(seconds) = seconds_left(checked, count, taken) else {
+        let Some(left) = seconds_left(checked, count, taken) else {
             return;
         };
-        if let Ok(line) = checked_line(self.alloc, checked, count, seconds) {
-            self.say(&line);
+        if let Ok(line) = format!(in self.alloc;
+            "{checked} of {count} deposits checked, {left} seconds left\n"
+        ) {
+            self.say(line.as_bytes());
         }
     }
 
@@ -103,29 +105,6 @@ impl<C: Clock, E: Write> Progress for ProgressLines<'_, '_, C, E> {
     fn checked(&mut self, checked: u32, count: u32) {
         self.say_checked(checked, count);
     }
-}
-
-/// The line that says how many bytes are read.
-fn bytes_line(alloc: Global, bytes: u64) -> Result<Vec<u8>, AllocError> {
-    let mut line = Vec::new(alloc);
-    writeln!(line, "reading {bytes} bytes").map_err(|_| AllocError)?;
-    Ok(line)
-}
-
-/// The line that says how many deposits are checked, and how many seconds are left.
-fn checked_line(
-    alloc: Global,
-    checked: u32,
-    count: u32,
-    seconds: u64,
-) -> Result<Vec<u8>, AllocError> {
-    let mut line = Vec::new(alloc);
-    writeln!(
-        line,
-        "{checked} of {count} deposits checked, {seconds} seconds left"
-    )
-    .map_err(|_| AllocError)?;
-    Ok(line)
 }
 
 /// The seconds in which the other deposits are checked, rounded up, if each takes as long as those that are. None where

@@ -1,59 +1,223 @@
 //! A register that is served over connections.
 
-use crate::commands::{Machine, StoreTask, use_store};
-use crate::connection::serve_next;
+ghost use Rattle.std.specs.Prelude.{◌≡◌, false};
+
+use crate::commands::{Machine, open_shown};
+use crate::connection::{drain_peer, serve_accepted};
+use crate::listener::{Listener, Stream};
 use crate::log::Log;
-use crate::progress::ProgressLines;
+use crate::log_file::open_log;
+use crate::moment::Moment;
+use crate::reload::{Look, Reload, Sign};
 use crate::stores::Registers;
-use ags_cli::{Fault, StreamFailed, Watched};
+use crate::version::VERSION;
+use ags_cli::{Fault, StreamFailed, Watched, tell};
 use itoa::Buffer;
-use reg_cli::{Failure, Service, day_or, read_rights};
+use reg_cli::{Digests, Failure, Place, Rights, Service, day_or, read_rights};
 use reg_desk::Desk;
-use reg_policy::{Callers, Day};
+use reg_policy::{Callers, Day, Policy};
 use reg_store::Keep;
 use std::alloc::Global;
-use std::fs::{File, OpenOptions};
+use std::fs::File;
 use std::io::Write;
-use std::net::TcpListener;
-use std::os::unix::fs::OpenOptionsExt;
 use std::time::{Clock, Duration};
+use std::{fs, io};
 
-/// Serves connections, one after the other, and of each writes the line of the log, and prints the status of the reply,
-/// or `fault`. `Stream` where such a line is not written, and `StoreFailed` where that ends it. No clause says so.
-pub fn serve_on<K: Keep, C: Clock, W: Write, L: Write + Drop>(
+/// Serves connections, one after the other: writes the line of the log before each reply, and then prints the status of
+/// the reply, or `fault`. `Stream` where such a line is not written, and `StoreFailed` where that ends it. Before each
+/// connection it looks whether rights and log are to be read anew. The store is returned. No clause says so.
+pub fn serve_on<'w, K: Keep, C: Clock, L: Write + Drop, R: Reload<'w, L>, W: Write, E: Write>(
     alloc: Global,
     clock: &C,
-    listener: &TcpListener,
-    desk: &mut Desk<K>,
-    serving: &Serving<'_>,
+    listener: &Listener,
+    serving: &Serving,
+    running: Running<K, L>,
+    reload: &mut R,
     out: &mut Watched<W>,
-    log: &mut Option<Log<L>>,
-) -> Result<(), Fault> {
+    err: &mut Watched<E>,
+) -> (Result<(), Fault>, K) {
+    let mut running = running;
+    let mut served = Ok(());
     for _ in 0..serving.connections {
-        let outcome = serve_next(alloc, clock, listener, desk, serving);
-        if let Some(log) = log {
-            log.append(serving.callers, &outcome)?;
+        let accepted = listener.accept();
+        let moment = Moment::now(clock);
+        let (next, noted) = renewed(alloc, &moment, running, reload, err);
+        running = next;
+        served = noted;
+        if served.is_ok() {
+            let trusted = trusted(serving, &moment, &running, err);
+            served = serve_next(alloc, clock, &accepted, trusted, serving, &mut running, out);
         }
-        print_line(out, outcome.status)?;
-        if serving.ends_on_failure && outcome.is_store_failed {
-            return Err(Fault::StoreFailed);
+        if served.is_err() {
+            break;
         }
     }
-    Ok(())
+    let Running {
+        desk,
+        callers: _callers,
+        log: _log,
+    } = running;
+    (served, desk.into_keep())
 }
 
 /// How connections are served.
-#[derive(Drop)]
-pub struct Serving<'s> {
-    pub callers: &'s Callers,
+#[derive(Clone, Copy)]
+pub struct Serving {
     /// The day of the requests; none where it is that of the clock.
     pub day: Option<Day>,
     /// The time for reading a request, and again for writing its reply.
     pub patience: Duration,
     /// How many connections are served.
-    pub connections: u32,
+    pub connections: u64,
     /// Whether no more are served after a reply that the store failed.
     pub ends_on_failure: bool,
+}
+
+/// What serves: a reload replaces all of it but the store.
+#[derive(Drop)]
+pub struct Running<K: Keep, L> {
+    pub desk: Desk<K>,
+    pub callers: Callers,
+    pub log: Option<Log<L>>,
+}
+
+/// What serves from now on, and whether its line of the log was written. Where what was read anew is refused, it is what
+/// served before.
+fn renewed<'w, K: Keep, L: Write + Drop, R: Reload<'w, L>, E: Write>(
+    alloc: Global,
+    moment: &Option<Moment>,
+    running: Running<K, L>,
+    reload: &mut R,
+    err: &mut Watched<E>,
+) -> (Running<K, L>, Result<(), Fault>)
+    ensures { result.0.desk.keep ≡ running.desk.keep }
+{
+    match reload.look(alloc) {
+        Look::Same => (running, Ok(())),
+        Look::Anew(rights, log) => renew(*moment, running, rights, log),
+        Look::Refused(failure) => {
+            let mut running = running;
+            let noted = note_refused(alloc, *moment, &failure, &mut running.log, err);
+            (running, noted)
+        }
+    }
+}
+
+/// Serves under other rights, with another log, from the same store: its deposits are as before, and what is answered
+/// from now on is a run under the policy of these rights.
+fn renew<K: Keep, L: Write + Drop>(
+    moment: Option<Moment>,
+    running: Running<K, L>,
+    rights: Rights,
+    log: Option<Log<L>>,
+) -> (Running<K, L>, Result<(), Fault>)
+    ensures { result.0.desk.keep ≡ running.desk.keep }
+{
+    let Rights {
+        policy,
+        callers,
+        digests,
+    } = rights;
+    let Running {
+        desk,
+        callers: _callers,
+        log: _log,
+    } = running;
+    let mut log = log;
+    let noted = note_rights(moment, "reload", &digests, &mut log);
+    let desk = under_policy(desk, policy);
+    (Running { desk, callers, log }, noted)
+}
+
+/// A desk over the same store under another policy. One that has failed answers nothing else under any policy.
+fn under_policy<K: Keep>(desk: Desk<K>, policy: Policy) -> Desk<K>
+    ensures keep { result.keep ≡ desk.keep }
+    ensures failed { result.failed ≡ desk.failed }
+    ensures policy { desk.failed ≡ false → result.policy ≡ policy }
+{
+    if desk.has_failed() {
+        return desk;
+    }
+    Desk::new(desk.into_keep(), policy)
+}
+
+/// Writes that rights apply from now on, if there is a log.
+fn note_rights<L: Write + Drop>(
+    moment: Option<Moment>,
+    event: &str,
+    digests: &Digests,
+    log: &mut Option<Log<L>>,
+) -> Result<(), Fault> {
+    match log {
+        Some(log) => log.append_rights(log.trusted(moment), event, VERSION, digests),
+        None => Ok(()),
+    }
+}
+
+/// Says on standard error and in the log that a reload is refused, and why. What standard error does not take is no
+/// fault.
+fn note_refused<'w, L: Write + Drop, E: Write>(
+    alloc: Global,
+    moment: Option<Moment>,
+    failure: &Failure<'w>,
+    log: &mut Option<Log<L>>,
+    err: &mut Watched<E>,
+) -> Result<(), Fault> {
+    let mut reason = Vec::new(alloc);
+    let _told = failure.tell(&mut Watched::new(&mut reason));
+    let _said = tell(err, &reason, 0);
+    let _said = tell(err, b"groundreg: not reloaded\n", 0);
+    let reason = reason.as_slice();
+    let reason = reason.strip_prefix(b"groundreg: ").unwrap_or(reason);
+    let reason = reason.strip_suffix(b"\n").unwrap_or(reason);
+    match log {
+        Some(log) => log.append_refused(log.trusted(moment), "reload", reason),
+        None => Ok(()),
+    }
+}
+
+/// The moment of a connection, none where its day is that of the request and is before the latest one of the log: the
+/// clock went back, and nothing is answered by it.
+fn trusted<K: Keep, L: Write + Drop, E: Write>(
+    serving: &Serving,
+    moment: &Option<Moment>,
+    running: &Running<K, L>,
+    err: &mut Watched<E>,
+) -> Option<Moment> {
+    let Some(log) = &running.log else {
+        return *moment;
+    };
+    let trusted = log.trusted(*moment);
+    if serving.day.is_none() && moment.is_some() && trusted.is_none() {
+        let _said = tell(
+            err,
+            b"groundreg: the day of the clock is before that of the log\n",
+            0,
+        );
+    }
+    trusted
+}
+
+/// Serves one connection, and prints its line.
+fn serve_next<K: Keep, C: Clock, L: Write + Drop, W: Write>(
+    alloc: Global,
+    clock: &C,
+    accepted: &io::Result<Stream>,
+    moment: Option<Moment>,
+    serving: &Serving,
+    running: &mut Running<K, L>,
+    out: &mut Watched<W>,
+) -> Result<(), Fault> {
+    let outcome = serve_accepted(alloc, clock, accepted, moment, serving, running);
+    if let (Ok(stream), Some(_)) = (accepted, outcome.status) {
+        let _ended = drain_peer(clock, stream);
+    }
+    outcome.written?;
+    print_line(out, outcome.status)?;
+    if serving.ends_on_failure && outcome.is_store_failed {
+        return Err(Fault::StoreFailed);
+    }
+    Ok(())
 }
 
 /// Prints the line of a connection.
@@ -68,40 +232,26 @@ fn print_line<W: Write>(out: &mut Watched<W>, status: Option<u16>) -> Result<(),
 /// Opens the register, listens, and serves.
 pub(crate) fn serve_register<'w, G: Registers, W: Write, E: Write>(
     rt: &HostRuntime,
-    alloc: Global,
     machine: Machine<G>,
     service: &Service<'w>,
     out: &mut Watched<W>,
     err: &mut Watched<E>,
 ) -> Result<u8, Failure<'w>> {
-    let (policy, callers) = read_rights(rt, alloc, service.policy, service.callers)?;
+    let mut sign = Sign::new(rt, service);
+    let rights = read_rights(rt, rt.alloc(), service.policy, service.callers)?;
     let serving = Serving {
-        callers: &callers,
         day: given_day(service, machine.today)?,
         patience: Duration::from_secs(u64::from(service.patience)),
-        connections: service.connections,
+        connections: service.connections.map_or(u64::MAX, u64::from),
         ends_on_failure: service.ends_on_failure,
     };
-    let log_file = open_log(rt, service.log)?;
-    let log = log_file.as_ref();
-    let task = StoreTask::Serve {
-        serving: &serving,
-        port: service.port,
-        log,
-    };
-    let is_wanted = machine.is_terminal || service.shows_progress;
-    let mut lines = ProgressLines::new(alloc, rt, err, is_wanted);
-    let registers = machine.registers;
-    use_store(
-        rt,
-        alloc,
-        registers,
-        service.store,
-        policy,
-        &task,
-        out,
-        &mut lines,
-    )
+    let log = open_log(rt, service)?;
+    let kept = open_shown(rt, machine, service.store, service.shows_progress, err)?;
+    let (served, kept) = serve_keep(
+        rt, service, &serving, kept, rights, log, &mut sign, out, err,
+    );
+    G::close(kept);
+    served
 }
 
 /// The day of the requests, if it is not that of the clock.
@@ -112,46 +262,82 @@ fn given_day(service: &Service<'_>, today: Option<Day>) -> Result<Option<Day>, F
     Ok(Some(day_or(service.day, today)?))
 }
 
-/// The file to which the log is appended. One that is made may be read by its owner alone.
-fn open_log<'w>(rt: &HostRuntime, path: Option<&'w str>) -> Result<Option<File>, Failure<'w>> {
-    let Some(path) = path else {
-        return Ok(None);
+/// Listens, and serves from a store, which is returned.
+fn serve_keep<'w, K: Keep, R: Reload<'w, File>, W: Write, E: Write>(
+    rt: &HostRuntime,
+    service: &Service<'w>,
+    serving: &Serving,
+    keep: K,
+    rights: Rights,
+    log: Option<Log<File>>,
+    reload: &mut R,
+    out: &mut Watched<W>,
+    err: &mut Watched<E>,
+) -> (Result<u8, Failure<'w>>, K)
+    requires { K.has_failed keep ≡ false }
+{
+    let Rights {
+        policy,
+        callers,
+        digests,
+    } = rights;
+    let mut log = log;
+    let listening = listen(rt, service.place, &digests, &mut log, out);
+    let listener = match listening {
+        Ok(listener) => listener,
+        Err(failure) => return (Err(failure), keep),
     };
-    let opened = OpenOptions::new()
-        .append(true)
-        .create(true)
-        .mode(0o600)
-        .open(rt, path);
-    match opened {
-        Ok(file) => Ok(Some(file)),
-        Err(_) => Err(Failure::CannotWrite(path)),
+    let running = Running {
+        desk: Desk::new(keep, policy),
+        callers,
+        log,
+    };
+    let (served, keep) = serve_on(
+        rt.alloc(),
+        rt,
+        &listener,
+        serving,
+        running,
+        reload,
+        out,
+        err,
+    );
+    if let Place::Socket(path) = service.place {
+        let _removed = fs::remove_file(rt, path);
+    }
+    match served {
+        Ok(()) => (Ok(0), keep),
+        Err(fault) => (Err(Failure::Plain(fault)), keep),
     }
 }
 
-/// Listens at a port, and serves connections over a desk.
-pub(crate) fn serve_desk<'w, K: Keep, W: Write>(
+/// Writes that `serve` starts, listens, and prints where.
+fn listen<'w, L: Write + Drop, W: Write>(
     rt: &HostRuntime,
-    alloc: Global,
-    desk: &mut Desk<K>,
-    serving: &Serving<'_>,
-    port: u16,
-    log: Option<&File>,
+    place: Place<'w>,
+    digests: &Digests,
+    log: &mut Option<Log<L>>,
     out: &mut Watched<W>,
-) -> Result<u8, Failure<'w>> {
-    let Ok(listener) = TcpListener::bind(rt, ("127.0.0.1", port)) else {
+) -> Result<Listener, Failure<'w>> {
+    note_rights(Moment::now(rt), "start", digests, log)?;
+    let listening = match place {
+        Place::Port(port) => Listener::at_port(rt, port),
+        Place::Socket(path) => Listener::at_path(rt, path),
+    };
+    let Ok(listener) = listening else {
         return Err(Failure::CannotListen);
     };
-    let mut log = match log {
-        Some(file) => Some(Log::new(alloc, file)?),
-        None => None,
-    };
-    print_port(out, port)?;
-    serve_on(alloc, rt, &listener, desk, serving, out, &mut log)?;
-    Ok(0)
+    print_place(out, place)?;
+    Ok(listener)
 }
 
-/// Prints that the port is listened on.
-fn print_port<W: Write>(out: &mut Watched<W>, port: u16) -> Result<(), Fault> {
-    let mut buffer = Buffer::new();
-    Ok(out.write_line(b"listening 127.0.0.1:", buffer.format(port).as_bytes())?)
+/// Prints where it is listened.
+fn print_place<W: Write>(out: &mut Watched<W>, place: Place<'_>) -> Result<(), Fault> {
+    match place {
+        Place::Port(port) => {
+            let mut buffer = Buffer::new();
+            Ok(out.write_line(b"listening 127.0.0.1:", buffer.format(port).as_bytes())?)
+        }
+        Place::Socket(path) => Ok(out.write_line(b"listening ", path.as_bytes())?),
+    }
 }

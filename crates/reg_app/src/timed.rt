@@ -2,12 +2,10 @@
 //!
 //! What is left of the time is set before each call, so a peer that sends or takes a byte at a time is cut too.
 
-use crate::front::Front;
-use reg_http::is_store_failed_reply;
-use std::alloc::Global;
+use crate::listener::Stream;
+use std::cell::Cell;
 use std::io;
 use std::io::{ErrorKind, Read, Write};
-use std::net::TcpStream;
 use std::time::{Clock, Duration, Instant};
 
 /// The end of a time that begins now.
@@ -18,38 +16,46 @@ pub(crate) fn end_of<C: Clock>(clock: &C, time: Duration) -> io::Result<Instant>
     }
 }
 
-/// What a peer sends up to an end.
-#[derive(Drop)]
-pub(crate) struct Received<'s, C> {
-    clock: &'s C,
-    stream: &'s TcpStream,
-    end: Instant,
-    front: Front,
+/// What the two sides of a connection and its notes have in common. At first nothing came.
+#[derive(Default, Drop)]
+pub(crate) struct Meter {
+    /// How many bytes came.
+    pub(crate) received: Cell<u64>,
+    /// Whether a reply may be sent: its line of the log is written.
+    pub(crate) may_send: Cell<bool>,
 }
 
-impl<'s, C: Clock> Received<'s, C> {
-    pub(crate) fn until(alloc: Global, end: Instant, clock: &'s C, stream: &'s TcpStream) -> Self {
-        Received {
-            clock,
-            stream,
-            end,
-            front: Front::new(alloc),
-        }
-    }
+/// What a peer sends up to an end.
+#[derive(Drop)]
+pub(crate) struct Sent<'s, C> {
+    pub(crate) clock: &'s C,
+    pub(crate) stream: &'s Stream,
+    pub(crate) end: Instant,
+}
 
-    /// The first bytes that came.
-    pub(crate) fn into_front(self) -> Front {
-        self.front
+impl<C: Clock> Read for Sent<'_, C> {
+    fn read(&mut self, buf: &mut [u8]) -> io::Result<usize> {
+        let left = left_to(self.clock, self.end)?;
+        self.stream.read(buf, left)
     }
+}
+
+/// What a peer sends of a request, which is counted. A read fails too where the peer waits for no reply any more: what
+/// it requested is not computed.
+#[derive(Drop)]
+pub(crate) struct Received<'s, C> {
+    pub(crate) sent: Sent<'s, C>,
+    pub(crate) meter: &'s Meter,
 }
 
 impl<C: Clock> Read for Received<'_, C> {
     fn read(&mut self, buf: &mut [u8]) -> io::Result<usize> {
-        let left = left_to(self.clock, self.end)?;
-        self.stream.set_read_timeout(Some(left))?;
-        let mut stream = self.stream;
-        let count = stream.read(buf)?;
-        self.front.add(&buf[..count]);
+        let count = self.sent.read(buf)?;
+        if self.sent.stream.is_abandoned() {
+            return Err(io::Error::from(ErrorKind::BrokenPipe));
+        }
+        let before = self.meter.received.get();
+        self.meter.received.set(before.saturating_add(count as u64));
         Ok(count)
     }
 }
@@ -66,58 +72,50 @@ fn left_to<C: Clock>(clock: &C, end: Instant) -> io::Result<Duration> {
 
 /// What is sent to a peer, within a time that begins with the first byte.
 #[derive(Drop)]
-pub(crate) struct SentBytes<'s, C> {
+pub(crate) struct Replied<'s, C> {
     clock: &'s C,
-    stream: &'s TcpStream,
+    stream: &'s Stream,
     time: Duration,
     end: Option<Instant>,
-    count: u64,
-    is_store_failed: bool,
+    meter: &'s Meter,
 }
 
-impl<'s, C: Clock> SentBytes<'s, C> {
-    pub(crate) fn within(time: Duration, clock: &'s C, stream: &'s TcpStream) -> Self {
-        SentBytes {
+impl<'s, C: Clock> Replied<'s, C> {
+    pub(crate) fn within(
+        time: Duration,
+        clock: &'s C,
+        stream: &'s Stream,
+        meter: &'s Meter,
+    ) -> Self {
+        Replied {
             clock,
             stream,
             time,
             end: None,
-            count: 0,
-            is_store_failed: false,
+            meter,
         }
     }
 
-    /// How many bytes were sent.
-    pub(crate) fn count(&self) -> u64 {
-        self.count
-    }
-
-    /// Whether the reply, sent or cut, is that the store failed.
-    pub(crate) fn is_store_failed(&self) -> bool {
-        self.is_store_failed
-    }
-
-    /// The end of its time. The first call has the whole reply, and begins the time.
-    fn end(&mut self, reply: &[u8]) -> io::Result<Instant> {
+    /// The end of its time, which the first call begins.
+    fn end(&mut self) -> io::Result<Instant> {
         if let Some(end) = self.end {
             return Ok(end);
         }
-        self.is_store_failed = is_store_failed_reply(reply);
         let end = end_of(self.clock, self.time)?;
         self.end = Some(end);
         Ok(end)
     }
 }
 
-impl<C: Clock> Write for SentBytes<'_, C> {
+impl<C: Clock> Write for Replied<'_, C> {
+    /// Nothing is sent before the line of the log is written.
     fn write(&mut self, buf: &[u8]) -> io::Result<usize> {
-        let end = self.end(buf)?;
+        if !self.meter.may_send.get() {
+            return Err(io::Error::from(ErrorKind::Other));
+        }
+        let end = self.end()?;
         let left = left_to(self.clock, end)?;
-        self.stream.set_write_timeout(Some(left))?;
-        let mut stream = self.stream;
-        let count = stream.write(buf)?;
-        self.count = self.count.saturating_add(count as u64);
-        Ok(count)
+        self.stream.write(buf, left)
     }
 
     fn flush(&mut self) -> io::Result<()> {

@@ -1,5 +1,7 @@
 mod answers;
+mod caller;
 mod checks;
+mod command_caller;
 mod connections;
 mod progress;
 

@@ -6,10 +6,12 @@ ghost use Rattle.reg_policy.specs.Callers.{HasCallers};
 ghost use Rattle.reg_policy.specs.Rules.{HasRules};
 
 use crate::failure::Failure;
+use crate::words::Token;
 use ags_cli::Fault;
 use ags_dict::{DictError, Dictionary};
 use ags_rows::LIMIT;
 use reg_policy::{Callers, CallersError, Policy, PolicyError};
+use sha2::{Digest, Sha256};
 use std::alloc::Global;
 use std::io::{ErrorKind, Read};
 use std::str::from_utf8;
@@ -21,25 +23,62 @@ pub fn read_rights<'w>(
     alloc: Global,
     policy: &'w str,
     callers: &'w str,
-) -> Result<(Policy, Callers), Failure<'w>> {
-    let policy = read_policy(rt, alloc, policy)?;
-    Ok((policy, read_callers(rt, alloc, callers)?))
+) -> Result<Rights, Failure<'w>> {
+    let bytes = read_path(rt, alloc, policy)?;
+    let policy_digest = Sha256::digest(bytes.as_slice());
+    let policy = policy_in(alloc, &bytes)?;
+    let bytes = read_path(rt, alloc, callers)?;
+    let callers_digest = Sha256::digest(bytes.as_slice());
+    Ok(Rights {
+        policy,
+        callers: callers_in(alloc, &bytes)?,
+        digests: Digests {
+            policy: policy_digest,
+            callers: callers_digest,
+        },
+    })
 }
 
-/// The policy in the file at a path.
-fn read_policy<'w>(rt: &HostRuntime, alloc: Global, path: &'w str) -> Result<Policy, Failure<'w>> {
-    let bytes = read_path(rt, alloc, path)?;
-    Ok(policy_in(alloc, &bytes)?)
+/// Who may do what.
+#[derive(Drop)]
+pub struct Rights {
+    pub policy: Policy,
+    pub callers: Callers,
+    pub digests: Digests,
 }
 
-/// The callers in the file at a path.
-fn read_callers<'w>(
+/// The SHA-256 of the two files. No clause says so.
+#[derive(Clone, Copy)]
+pub struct Digests {
+    pub policy: [u8; 32],
+    pub callers: [u8; 32],
+}
+
+/// The token of the one who asks: as it is given, or the bytes of the file that has it, without one line end after
+/// them. No clause says so.
+pub fn read_token<'w>(
     rt: &HostRuntime,
     alloc: Global,
-    path: &'w str,
-) -> Result<Callers, Failure<'w>> {
-    let bytes = read_path(rt, alloc, path)?;
-    Ok(callers_in(alloc, &bytes)?)
+    token: Token<'w>,
+) -> Result<Vec<u8>, Failure<'w>> {
+    match token {
+        Token::Given(text) => Ok(Vec::from_slice(alloc, text.as_bytes())?),
+        Token::InFile(path) => {
+            let mut bytes = read_path(rt, alloc, path)?;
+            drop_line_end(&mut bytes);
+            Ok(bytes)
+        }
+    }
+}
+
+/// Takes one line end, LF or CR LF, from the end of a text.
+fn drop_line_end(text: &mut Vec<u8>) {
+    if text.last() == Some(&b'\n') {
+        let _line_feed = text.pop();
+        if text.last() == Some(&b'\r') {
+            let _carriage_return = text.pop();
+        }
+    }
 }
 
 /// The policy that bytes are.

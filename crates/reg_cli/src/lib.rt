@@ -6,7 +6,6 @@
 //! run, over writers whose bytes they can name. What a check of standard input reads and prints is `ags_cli`.
 #![tactic(auto)]
 
-mod asking;
 mod failure;
 mod files;
 mod given;
@@ -14,9 +13,9 @@ mod printing;
 mod session;
 mod words;
 
-pub use asking::{ask_deposit, ask_extract, ask_list, ask_withdraw};
 pub use failure::Failure;
-pub use files::{dictionary_in, read_path, read_rights};
+pub use files::{Digests, Rights, dictionary_in, read_path, read_rights, read_token};
 pub use given::check_given;
-pub use session::{Session, day_or, session_of};
-pub use words::{Action, Asker, Service, Words, read_words};
+pub use printing::ask_desk;
+pub use session::{Session, ask_of, day_or, session_of};
+pub use words::{Action, Asker, Place, Service, Token, Verification, Words, read_words};

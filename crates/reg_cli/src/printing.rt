@@ -1,18 +1,37 @@
-//! What is printed of an answer of the desk.
+//! What is requested from a desk, and what is printed of its answer.
 
 ghost use Rattle.std.specs.Prelude.{◌≡◌, ◌++◌, IfOk, codes, decimal};
+ghost use Rattle.reg_desk.specs.Asked.{asked};
+ghost use Rattle.reg_cli.specs.Asking.{AsksDesk};
 ghost use Rattle.reg_cli.specs.Printing.{IsListedLine, IsReceipt, ListsAs, ReportsAnswer, dated_line};
 
-use ags_cli::{Report, findings_report};
+use crate::failure::Failure;
+use ags_cli::{Report, Watched, findings_report};
 use ags_rows::FindingList;
 use ags_text::Sequence;
-use reg_desk::{Answer, Listed};
+use reg_desk::{Answer, Desk, Listed, Request};
 use reg_policy::Day;
+use reg_store::Keep;
 use std::alloc::{AllocError, Global};
 use std::io::Write;
 
+/// Calls the desk, and prints its answer. It is refused only when out of memory: then nothing is printed, and the desk
+/// is as its answer left it.
+pub fn ask_desk<'w, K: Keep, W: Write>(
+    alloc: Global,
+    desk: &mut Desk<K>,
+    request: &Request<'_>,
+    out: &mut Watched<W>,
+) -> Result<u8, Failure<'w>>
+    ensures { AsksDesk W.Write (asked request.entry.now) desk.old desk.new out.old out.new result }
+{
+    let answer = desk.answer(alloc, request);
+    let report = answer_report(alloc, answer)?;
+    Ok(report.print(out))
+}
+
 /// What is printed of an answer, and the status that the run ends with.
-pub(crate) fn answer_report(alloc: Global, answer: Answer) -> Result<Report, AllocError>
+fn answer_report(alloc: Global, answer: Answer) -> Result<Report, AllocError>
     ensures { IfOk result (λ report. ReportsAnswer answer report) }
 {
     match answer {

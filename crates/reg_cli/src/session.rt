@@ -1,13 +1,15 @@
-//! Who asks, for which project, and on which day.
+//! Who asks, for which project, on which day, and what.
 
 ghost use Rattle.std.specs.Prelude.{◌≡◌, IfOk, Some};
 ghost use Rattle.reg_policy.specs.Callers.{caller_of};
 ghost use Rattle.reg_cli.specs.Sessions.{IsDayOr};
 
-use crate::words::Asker;
+use crate::words::{Action, Asker};
 use ags_cli::Fault;
-use reg_policy::{Caller, Callers, Day, Name, NameError};
+use reg_policy::{Caller, Callers, Day, Name, NameError, Verb};
+use reg_request::{Ask, lists_groups, number_of_deposit};
 use std::alloc::Global;
+use std::borrow::CowStr;
 
 /// Who asks by this token, for the project and on the day that the arguments give, or on `today` where they give none.
 /// A token of no caller, a project that is no name and a day that is none are refused. No clause says which of them is
@@ -15,15 +17,16 @@ use std::alloc::Global;
 pub fn session_of<'c>(
     alloc: Global,
     callers: &'c Callers,
+    token: &[u8],
     asker: &Asker<'_>,
     today: Option<Day>,
 ) -> Result<Session<'c>, Fault>
     ensures caller { IfOk result (λ session.
-        caller_of asker.now.token.now callers.now ≡ Some session.caller.now) }
+        caller_of token.now callers.now ≡ Some session.caller.now) }
     ensures project { IfOk result (λ session. session.project ≡ asker.now.project.now) }
     ensures day { IfOk result (λ session. IsDayOr asker.now.day today session.day) }
 {
-    let Some(caller) = callers.find(asker.token.as_bytes()) else {
+    let Some(caller) = callers.find(token) else {
         return Err(Fault::TokenRefused);
     };
     let project = project_given(alloc, asker.project)?;
@@ -63,4 +66,31 @@ pub fn day_or(text: Option<&str>, other: Option<Day>) -> Result<Day, Fault>
         Some(text) => Day::read(text).ok_or(Fault::DayRefused),
         None => other.ok_or(Fault::DayRefused),
     }
+}
+
+/// What is asked, on a day, by the arguments that give it. No clause says so.
+pub fn ask_of<'w>(action: &Action<'w>, day: Day) -> Result<Ask<'w>, Fault> {
+    match action.verb {
+        Verb::Deposit => Ok(Ask::Deposit(day_or(action.embargo, Some(day))?)),
+        Verb::Extract => {
+            let groups = groups_given(action.groups)?;
+            Ok(Ask::Extract(number_given(action.number)?, groups))
+        }
+        Verb::Withdraw => Ok(Ask::Withdraw(number_given(action.number)?)),
+        _ => Ok(Ask::List),
+    }
+}
+
+/// The text that lists groups, if it is given.
+fn groups_given<'w>(text: Option<&'w str>) -> Result<Option<CowStr<'w>>, Fault> {
+    match text {
+        Some(text) if !lists_groups(text.as_bytes()) => Err(Fault::GroupsRefused),
+        Some(text) => Ok(Some(CowStr::Borrowed(text))),
+        None => Ok(None),
+    }
+}
+
+/// The number of a deposit that a text writes.
+fn number_given(text: Option<&str>) -> Result<u32, Fault> {
+    number_of_deposit(text.unwrap_or("").as_bytes()).ok_or(Fault::NumberRefused)
 }

@@ -2,9 +2,11 @@
 
 ghost use Rattle.std.specs.Prelude.{◌≤◌, IfSome};
 
+use Word::{Flag, Optional, Plain, Required};
 use ags_cli::Fault;
 use clap::error::ErrorKind;
 use clap::{Arg, ArgAction, ArgMatches, Command, Error};
+use reg_policy::Verb;
 use std::alloc::{AllocError, Global};
 use std::convert::AsStr;
 
@@ -17,7 +19,7 @@ pub fn read_words<'w, S: AsStr>(alloc: Global, words: &'w [S]) -> Result<Words<'
         return Err(Fault::WordsRefused);
     };
     let given = given_by(alloc, form, words)?;
-    task_words(&form.task, &given).ok_or(Fault::WordsRefused)
+    words_of(form.name, &given).ok_or(Fault::WordsRefused)
 }
 
 /// A command with the texts that its arguments give.
@@ -31,6 +33,8 @@ pub enum Words<'w> {
         store: &'w str,
         shows_progress: bool,
     },
+    Verify(Verification<'w>),
+    Version,
     Check {
         dictionary: &'w str,
         file: &'w str,
@@ -39,21 +43,23 @@ pub enum Words<'w> {
     Serve(Service<'w>),
 }
 
-/// What is done for the one who asks, as it was given.
+/// What is verified: a register, and against which log.
 #[derive(Clone, Copy)]
-pub enum Action<'w> {
-    Deposit {
-        embargo: Option<&'w str>,
-        file: &'w str,
-    },
-    Extract {
-        groups: Option<&'w str>,
-        number: &'w str,
-    },
-    List,
-    Withdraw {
-        number: &'w str,
-    },
+pub struct Verification<'w> {
+    pub store: &'w str,
+    pub log: Option<&'w str>,
+    /// Whether the progress of the start is shown, whatever standard error is.
+    pub shows_progress: bool,
+}
+
+/// What is requested, as it was given. What its command has no argument for is none.
+#[derive(Clone, Copy)]
+pub struct Action<'w> {
+    pub verb: Verb,
+    pub embargo: Option<&'w str>,
+    pub groups: Option<&'w str>,
+    pub number: Option<&'w str>,
+    pub file: Option<&'w str>,
 }
 
 /// Who asks, of which store, by which policy, for which project and on which day, as it was given.
@@ -62,11 +68,29 @@ pub struct Asker<'w> {
     pub store: &'w str,
     pub policy: &'w str,
     pub callers: &'w str,
-    pub token: &'w str,
+    pub token: Token<'w>,
     pub project: &'w str,
     pub day: Option<&'w str>,
     /// Whether the progress of the start is shown, whatever standard error is.
     pub shows_progress: bool,
+}
+
+/// Where the token of the one who asks is.
+#[derive(Clone, Copy)]
+pub enum Token<'w> {
+    /// It is this argument.
+    Given(&'w str),
+    /// It is in the file that this argument names.
+    InFile(&'w str),
+}
+
+/// What `serve` listens on.
+#[derive(Clone, Copy)]
+pub enum Place<'w> {
+    /// A port of 127.0.0.1: 1 to 65,535, as `read_words` reads it.
+    Port(u16),
+    /// A Unix socket at this path.
+    Socket(&'w str),
 }
 
 /// What `serve` serves, as it was given.
@@ -79,10 +103,10 @@ pub struct Service<'w> {
     pub day: Option<&'w str>,
     /// Whether the day of each request is that of the clock.
     pub is_day_by_clock: bool,
-    /// 1 to 65,535, as `read_words` reads it. No clause says so.
-    pub port: u16,
-    /// 1 to 1,000,000, as `read_words` reads it. No clause says so.
-    pub connections: u32,
+    pub place: Place<'w>,
+    /// How many connections are served, 1 to 1,000,000 as `read_words` reads it; none where there is no end to them. No
+    /// clause says so.
+    pub connections: Option<u32>,
     /// The seconds for reading a request, and for writing its reply: 1 to 3,600, as `read_words` reads it. No clause
     /// says so.
     pub patience: u32,
@@ -90,28 +114,17 @@ pub struct Service<'w> {
     pub ends_on_failure: bool,
     /// The file to which a line is appended for each connection.
     pub log: Option<&'w str>,
+    /// The file whose change has policy, callers and log read anew.
+    pub reload: Option<&'w str>,
     /// Whether the progress of the start is shown, whatever standard error is.
     pub shows_progress: bool,
 }
 
-/// A command's name, the arguments that other commands have too, and its own.
+/// A command: its name, the arguments that other commands have too, and its own.
 struct Form {
     name: &'static str,
-    task: Task,
     shared: &'static [Word],
     own: &'static [Word],
-}
-
-/// What a command does.
-enum Task {
-    Init,
-    Migrate,
-    Check,
-    Deposit,
-    Extract,
-    List,
-    Withdraw,
-    Serve,
 }
 
 /// An argument of a command, by the name under which it is read.
@@ -126,88 +139,34 @@ enum Word {
     Plain(&'static str),
 }
 
-static FORMS: [Form; 8] = [
-    Form {
-        name: "init",
-        task: Task::Init,
-        shared: &[],
-        own: &[Word::Required("store"), Word::Required("dictionary")],
-    },
-    Form {
-        name: "migrate",
-        task: Task::Migrate,
-        shared: &[],
-        own: &[Word::Required("store"), Word::Flag("progress")],
-    },
-    Form {
-        name: "check",
-        task: Task::Check,
-        shared: &[],
-        own: &[Word::Required("dictionary"), Word::Plain("file")],
-    },
-    Form {
-        name: "deposit",
-        task: Task::Deposit,
-        shared: ASKER,
-        own: &[Word::Optional("embargo"), Word::Plain("file")],
-    },
-    Form {
-        name: "extract",
-        task: Task::Extract,
-        shared: ASKER,
-        own: &[Word::Optional("groups"), Word::Plain("number")],
-    },
-    Form {
-        name: "list",
-        task: Task::List,
-        shared: ASKER,
-        own: &[],
-    },
-    Form {
-        name: "withdraw",
-        task: Task::Withdraw,
-        shared: ASKER,
-        own: &[Word::Plain("number")],
-    },
-    Form {
-        name: "serve",
-        task: Task::Serve,
-        shared: &[],
-        own: &[
-            Word::Required("store"),
-            Word::Required("policy"),
-            Word::Required("callers"),
-            Word::Required("port"),
-            Word::Required("connections"),
-            Word::Optional("day"),
-            Word::Flag("day-by-clock"),
-            Word::Optional("patience"),
-            Word::Flag("end-on-failure"),
-            Word::Optional("log"),
-            Word::Flag("progress"),
-        ],
-    },
+#[rattlefmt::skip]
+static FORMS: [Form; 10] = [
+    Form { name: "init", shared: &[], own: &[Required("store"), Required("dictionary")] },
+    Form { name: "migrate", shared: &[], own: &[Required("store"), Flag("progress")] },
+    Form { name: "verify", shared: &[], own: &[Required("store"), Optional("log"), Flag("progress")] },
+    Form { name: "version", shared: &[], own: &[] },
+    Form { name: "check", shared: &[], own: &[Required("dictionary"), Plain("file")] },
+    Form { name: "deposit", shared: ASKER, own: &[Optional("embargo"), Plain("file")] },
+    Form { name: "extract", shared: ASKER, own: &[Optional("groups"), Plain("number")] },
+    Form { name: "list", shared: ASKER, own: &[] },
+    Form { name: "withdraw", shared: ASKER, own: &[Plain("number")] },
+    Form { name: "serve", shared: &[], own: &[
+        Required("store"), Required("policy"), Required("callers"), Optional("port"), Optional("socket"),
+        Optional("connections"), Flag("unending"), Optional("day"), Flag("day-by-clock"), Optional("patience"),
+        Flag("end-on-failure"), Optional("log"), Optional("reload"), Flag("progress"),
+    ] },
 ];
 
 /// The arguments that say who asks.
+#[rattlefmt::skip]
 const ASKER: &[Word] = &[
-    Word::Required("store"),
-    Word::Required("policy"),
-    Word::Required("callers"),
-    Word::Required("token"),
-    Word::Required("project"),
-    Word::Optional("day"),
-    Word::Flag("progress"),
+    Required("store"), Required("policy"), Required("callers"), Optional("token"), Optional("token-file"),
+    Required("project"), Optional("day"), Flag("progress"),
 ];
 
 /// The form of the command that has this name.
 fn form_of(name: &str) -> Option<&'static Form> {
-    for form in &FORMS {
-        if form.name == name {
-            return Some(form);
-        }
-    }
-    None
+    FORMS.iter().find(|form| form.name == name)
 }
 
 /// What the arguments give to a command, whose name is the first. A request for help is refused as well.
@@ -256,100 +215,128 @@ fn flag<'w>(alloc: Global, name: &'w str) -> Arg<'w> {
     Arg::new(alloc, name).long(name).action(ArgAction::SetTrue)
 }
 
-/// What a command's own arguments give.
-fn task_words<'w>(task: &Task, given: &ArgMatches<'w>) -> Option<Words<'w>> {
-    match task {
-        Task::Init => init_words(given),
-        Task::Migrate => migrate_words(given),
-        Task::Check => check_words(given),
-        Task::Deposit => deposit_words(given),
-        Task::Extract => extract_words(given),
-        Task::List => Some(Words::Ask(asker_in(given)?, Action::List)),
-        Task::Withdraw => withdraw_words(given),
-        Task::Serve => Some(Words::Serve(service_in(given)?)),
+/// What the arguments of the command of this name give.
+fn words_of<'w>(name: &str, given: &ArgMatches<'w>) -> Option<Words<'w>> {
+    match name {
+        "init" => init_words(given),
+        "migrate" => migrate_words(given),
+        "verify" => verify_words(given),
+        "version" => Some(Words::Version),
+        "check" => check_words(given),
+        "deposit" => asking_words(given, Verb::Deposit),
+        "extract" => asking_words(given, Verb::Extract),
+        "list" => asking_words(given, Verb::List),
+        "withdraw" => asking_words(given, Verb::Withdraw),
+        "serve" => Some(Words::Serve(service_in(given)?)),
+        _ => None,
     }
 }
 
 fn init_words<'w>(given: &ArgMatches<'w>) -> Option<Words<'w>> {
     Some(Words::Init {
-        store: text(given, "store")?,
-        dictionary: text(given, "dictionary")?,
+        store: given.get_str("store")?,
+        dictionary: given.get_str("dictionary")?,
     })
 }
 
 fn migrate_words<'w>(given: &ArgMatches<'w>) -> Option<Words<'w>> {
     Some(Words::Migrate {
-        store: text(given, "store")?,
+        store: given.get_str("store")?,
         shows_progress: given.get_flag("progress"),
     })
 }
 
+fn verify_words<'w>(given: &ArgMatches<'w>) -> Option<Words<'w>> {
+    Some(Words::Verify(Verification {
+        store: given.get_str("store")?,
+        log: given.get_str("log"),
+        shows_progress: given.get_flag("progress"),
+    }))
+}
+
 fn check_words<'w>(given: &ArgMatches<'w>) -> Option<Words<'w>> {
     Some(Words::Check {
-        dictionary: text(given, "dictionary")?,
-        file: text(given, "file")?,
+        dictionary: given.get_str("dictionary")?,
+        file: given.get_str("file")?,
     })
 }
 
-fn deposit_words<'w>(given: &ArgMatches<'w>) -> Option<Words<'w>> {
-    let action = Action::Deposit {
-        embargo: text(given, "embargo"),
-        file: text(given, "file")?,
-    };
-    Some(Words::Ask(asker_in(given)?, action))
-}
-
-fn extract_words<'w>(given: &ArgMatches<'w>) -> Option<Words<'w>> {
-    let action = Action::Extract {
-        groups: text(given, "groups"),
-        number: text(given, "number")?,
-    };
-    Some(Words::Ask(asker_in(given)?, action))
-}
-
-fn withdraw_words<'w>(given: &ArgMatches<'w>) -> Option<Words<'w>> {
-    let action = Action::Withdraw {
-        number: text(given, "number")?,
+fn asking_words<'w>(given: &ArgMatches<'w>, verb: Verb) -> Option<Words<'w>> {
+    let action = Action {
+        verb,
+        embargo: given.get_str("embargo"),
+        groups: given.get_str("groups"),
+        number: given.get_str("number"),
+        file: given.get_str("file"),
     };
     Some(Words::Ask(asker_in(given)?, action))
 }
 
 fn asker_in<'w>(given: &ArgMatches<'w>) -> Option<Asker<'w>> {
     Some(Asker {
-        store: text(given, "store")?,
-        policy: text(given, "policy")?,
-        callers: text(given, "callers")?,
-        token: text(given, "token")?,
-        project: text(given, "project")?,
-        day: text(given, "day"),
+        store: given.get_str("store")?,
+        policy: given.get_str("policy")?,
+        callers: given.get_str("callers")?,
+        token: token_in(given)?,
+        project: given.get_str("project")?,
+        day: given.get_str("day"),
         shows_progress: given.get_flag("progress"),
     })
 }
 
+/// The token, or the file that has it: one of them.
+fn token_in<'w>(given: &ArgMatches<'w>) -> Option<Token<'w>> {
+    match (given.get_str("token"), given.get_str("token-file")) {
+        (Some(token), None) => Some(Token::Given(token)),
+        (None, Some(path)) => Some(Token::InFile(path)),
+        _ => None,
+    }
+}
+
 fn service_in<'w>(given: &ArgMatches<'w>) -> Option<Service<'w>> {
-    let day = text(given, "day");
+    let day = given.get_str("day");
     let is_day_by_clock = given.get_flag("day-by-clock");
     if is_day_by_clock && day.is_some() {
         return None;
     }
     Some(Service {
-        store: text(given, "store")?,
-        policy: text(given, "policy")?,
-        callers: text(given, "callers")?,
+        store: given.get_str("store")?,
+        policy: given.get_str("policy")?,
+        callers: given.get_str("callers")?,
         day,
         is_day_by_clock,
-        port: number(given, "port", 65_535)? as u16,
-        connections: number(given, "connections", MOST_CONNECTIONS)?,
+        place: place_in(given)?,
+        connections: connections_in(given)?,
         patience: patience_in(given)?,
         ends_on_failure: given.get_flag("end-on-failure"),
-        log: text(given, "log"),
+        log: given.get_str("log"),
+        reload: given.get_str("reload"),
         shows_progress: given.get_flag("progress"),
     })
 }
 
+/// The port, or the socket: one of them.
+fn place_in<'w>(given: &ArgMatches<'w>) -> Option<Place<'w>> {
+    match (given.get_str("port"), given.get_str("socket")) {
+        (Some(_), None) => Some(Place::Port(number(given, "port", 65_535)? as u16)),
+        (None, Some(path)) => Some(Place::Socket(path)),
+        _ => None,
+    }
+}
+
+/// How many connections are served, or that there is no end to them: one of both is given.
+fn connections_in(given: &ArgMatches<'_>) -> Option<Option<u32>> {
+    let is_unending = given.get_flag("unending");
+    match given.get_str("connections") {
+        Some(_) if !is_unending => Some(Some(number(given, "connections", MOST_CONNECTIONS)?)),
+        None if is_unending => Some(None),
+        _ => None,
+    }
+}
+
 /// The seconds of patience with a connection.
 fn patience_in(given: &ArgMatches<'_>) -> Option<u32> {
-    match text(given, "patience") {
+    match given.get_str("patience") {
         Some(_) => number(given, "patience", MOST_PATIENCE),
         None => Some(USUAL_PATIENCE),
     }
@@ -368,7 +355,7 @@ const USUAL_PATIENCE: u32 = 30;
 fn number(given: &ArgMatches<'_>, name: &str, most: u32) -> Option<u32>
     ensures { IfSome result (λ number. (1 ≤ number) × (number ≤ most)) }
 {
-    let digits = text(given, name)?;
+    let digits = given.get_str(name)?;
     if !digits.bytes().all(|b| b.is_ascii_digit()) {
         return None;
     }
@@ -376,9 +363,4 @@ fn number(given: &ArgMatches<'_>, name: &str, most: u32) -> Option<u32>
         Ok(number) if (1..=most).contains(&number) => Some(number),
         _ => None,
     }
-}
-
-/// The text that is given under a name.
-fn text<'w>(given: &ArgMatches<'w>, name: &str) -> Option<&'w str> {
-    given.get_str(name)
 }

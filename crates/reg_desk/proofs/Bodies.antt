@@ -11,15 +11,15 @@ use Rattle.ags_check.specs.declared.checking.CheckError.TheVariants as errors
 use Rattle.reg_policy.specs.declared.rule.Rule.{Rule}
 use Rattle.reg_policy.specs.declared.callers.Caller.{Caller}
 use Rattle.reg_policy.specs.declared.subject.Decision.{Decision}
-use Rattle.reg_policy.specs.declared.subject.Decision.TheVariants.{Permit, Deny}
+use Rattle.reg_policy.specs.declared.subject.Decision.TheVariants.{Permit}
 use Rattle.reg_policy.specs.declared.subject.Verb.TheVariants as verbs
 use Rattle.reg_store.specs.declared.keep.Keep.{Ghosts}
 use Rattle.reg_desk.specs.Asked.{Asked, check}
 use Rattle.reg_desk.specs.declared.answer.Answer.{Answer}
 use Rattle.reg_desk.specs.declared.answer.Answer.TheVariants.{Clean, Findings, Denied, TooLarge, NoMemory}
 use Rattle.reg_desk.specs.Machine.{Terms, decided, OrDenied, OrFound, OrRefused, IsReply, IsNext}
-use Rattle.reg_desk.specs.Serving.{NeedsMemory, IsRefusal, terms_at, Serves}
-use Rattle.reg_desk.proofs.Serves.{needs_of, replies_at_once, memory_at_once, permitted_reply, denied_reply, permit_stands}
+use Rattle.reg_desk.specs.Serving.{NeedsMemory, IsCleanCheck, IsRefusal, terms_at, Serves}
+use Rattle.reg_desk.proofs.Serves.{needs_of, replies_at_once, memory_at_once, permitted_reply, permit_stands}
 
 pub where_true : (t : Bool) (A B : Type 0) → t ≡ true → A → MatchBool t A B
 where_true t A B e a = subst (λ (b : Bool). MatchBool b A B) (sym e) a
@@ -90,6 +90,12 @@ pub refusal_is : (given : Entries) (bytes : List ℕ) (error : CheckError) (answ
 refusal_is given bytes (errors.Findings found) answer le has told memory = subst (IsRefusal given bytes) (sym (told found refl)) (le, (has found refl).0, (has found refl).1)
 refusal_is given bytes errors.NoMemory answer le has told memory = subst (IsRefusal given bytes) (sym (memory refl)) le
 
+-- what a check ends with is a refusal of the body, or Clean
+pub report_is : (given : Entries) (bytes : List ℕ) (found : List Finding) (answer : Answer) → length bytes ≤ LIMIT → AreFindings given bytes found
+    → (found ≡ [] → answer ≡ Clean) → (found ≢ [] → answer ≡ Findings found) → IsRefusal given bytes answer ⊎ IsCleanCheck given bytes answer
+report_is given bytes [] answer le are none some = inr (none refl, le, are)
+report_is given bytes (f ∷ found) answer le are none some = inl (subst (IsRefusal given bytes) (sym (some (λ e. cc))) (le, are, λ e. cc))
+
 -- ---- a check
 
 abbrev IsCleanAnswer : Answer → Type 0
@@ -104,11 +110,6 @@ module _ {K : Type 0} (keep : Ghosts K) (rules : List Rule) (caller : Caller) (p
 
   abbrev ruling : Decision
   ruling = decided (terms_at keep rules old) caller project verbs.Check day
-
-  pub check_denied : (m : ℕ) → keep.has_failed old ≡ false → ruling ≡ Deny m → Serves keep rules request old old (Denied m)
-  check_denied m works deny =
-      replies_at_once keep rules request old (Denied m) works tt
-      (denied_reply ruling m (OrRefused (terms_at keep rules old) bytes IsCleanAnswer) deny) (inr (λ list change. change, refl))
 
   check_clean : (k : ℕ) → keep.has_failed old ≡ false → ruling ≡ Permit k → length bytes ≤ LIMIT → AreFindings (keep.dictionary old) bytes []
       → Serves keep rules request old old Clean

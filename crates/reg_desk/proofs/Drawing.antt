@@ -11,7 +11,7 @@ use Rattle.ags_check.specs.Findings.{CheckedFile}
 use Rattle.reg_policy.specs.declared.rule.Rule.{Rule}
 use Rattle.reg_policy.specs.declared.callers.Caller.{Caller}
 use Rattle.reg_policy.specs.declared.subject.Decision.{Decision}
-use Rattle.reg_policy.specs.declared.subject.Decision.TheVariants.{Permit, Deny}
+use Rattle.reg_policy.specs.declared.subject.Decision.TheVariants.{Permit}
 use Rattle.reg_policy.specs.declared.subject.Verb.TheVariants as verbs
 use Rattle.reg_store.specs.Sent.{Sent}
 use Rattle.reg_store.specs.Deposit.{Deposit, sents}
@@ -26,7 +26,7 @@ use Rattle.reg_desk.specs.Asked.{Asked, extract}
 use Rattle.reg_desk.specs.Laws.{IsModelAnswer}
 use Rattle.reg_desk.specs.declared.answer.Listed.{Listed}
 use Rattle.reg_desk.specs.declared.answer.Answer.{Answer}
-use Rattle.reg_desk.specs.declared.answer.Answer.TheVariants.{Text, Denied, Unknown}
+use Rattle.reg_desk.specs.declared.answer.Answer.TheVariants.{Text, Unknown}
 use Rattle.reg_desk.specs.Shown.{Look, IsProjectShown}
 use Rattle.ags_check.specs.Findings.{IsCleanFile}
 use Rattle.reg_desk.specs.Machine.{Terms, decided, look_at, IsSeen, IsTextOf, IsDrawnFrom, held, IsReply}
@@ -35,7 +35,7 @@ use Rattle.reg_desk.specs.View.{look_on, IsExtractOf, Sees}
 use Rattle.reg_desk.specs.Serving.{AsksStore, IsLineFor, text_answer, terms_at, OnlyReads, Serves, answer_of}
 use Rattle.reg_desk.proofs.Replies.{one_file}
 use Rattle.reg_desk.proofs.Bodies.{where_true}
-use Rattle.reg_desk.proofs.Serves.{asks_of, replies_at_once, refused_serves, replies_serves, permitted_reply, denied_reply, permit_stands}
+use Rattle.reg_desk.proofs.Serves.{asks_of, refused_serves, replies_serves, permitted_reply, permit_stands}
 
 -- ---- a kept deposit
 
@@ -219,10 +219,6 @@ module _ {K : Type 0} (keep : Ghosts K) (rules : List Rule) (caller : Caller) (p
   extract_asks k permit =
       asks_of IsOne (IsReply terms (keep.deposits old) request)
       (λ reply is. drawn_one terms caller project groups day (held number (keep.deposits old)) reply (permit_stands ruling k Drawn reply permit is)) one_asks
-
-  pub extract_denied : (m : ℕ) → keep.has_failed old ≡ false → ruling ≡ Deny m → Serves keep rules request old old (Denied m)
-  extract_denied m works deny =
-      replies_at_once keep rules request old (Denied m) works tt (denied_reply ruling m Drawn deny) (inr (λ list change. change, refl))
 
   pub extract_unread : (new : K) (k : ℕ) (e : KeepError) → ruling ≡ Permit k → OnlyReads keep old new (is_store e) → e ≢ errors.Full
       → Serves keep rules request old new (answer_of e)

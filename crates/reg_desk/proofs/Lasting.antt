@@ -17,13 +17,15 @@ use Rattle.reg_desk.specs.declared.answer.Answer.TheVariants.{Receipt, Full, NoM
 use Rattle.reg_desk.specs.Machine.{Terms, decided, first_equal, receipt_of, held, IsReply, asked_deposit, Changes, IsNext}
 use Rattle.reg_desk.specs.Serving.{is_failed, IsAnswer, IsAfter, terms_at}
 use Rattle.reg_desk.specs.Running.{AreFailed, AreAnswers, failing, Runs, IsHeldIn}
+use Rattle.reg_desk.specs.Laws.{WithdrawnIsMarked}
 use Rattle.reg_desk.proofs.Firsts.{first_at}
+use Rattle.reg_desk.proofs.ModelAnswers.{all_failed}
 use Rattle.reg_desk.proofs.Taken.{not_refused, taken_received, withdrawn_own}
 
 -- ---- a list that grew, and in which more may be marked
 
 -- what is held there is what was sent here, with the mark if it has it here
-abbrev Keeps : Deposit → Option Deposit → Type 0
+abbrev pub Keeps : Deposit → Option Deposit → Type 0
 Keeps d held = (e : Deposit) × (held ≡ Some e) × (e.sent ≡ d.sent) × (d.withdrawn ≡ true → e.withdrawn ≡ true)
 
 abbrev pub Grows : List Deposit → List Deposit → Type 0
@@ -71,11 +73,11 @@ after_grows terms request state next a lives h = next_grows terms request state 
 
 -- ---- a receipt
 
-receipt_fields : (n m : ℕ) (e f : ℤ) → Receipt n e ≡ Receipt m f → (n ≡ m) × (e ≡ f)
+pub receipt_fields : (n m : ℕ) (e f : ℤ) → Receipt n e ≡ Receipt m f → (n ≡ m) × (e ≡ f)
 receipt_fields n m e f h = (cc, cc)
 
 -- the receipt of a deposit that is not taken is that of an equal one
-receipt_first : (terms : Terms) (embargo : ℤ) (count : ℕ) (first : Option (ℕ × ℤ)) (n : ℕ) (e : ℤ) → Receipt n e ≡ receipt_of terms embargo count first → (Receipt n e ≢ Receipt (count + 1) embargo) → first ≡ Some (n, e)
+pub receipt_first : (terms : Terms) (embargo : ℤ) (count : ℕ) (first : Option (ℕ × ℤ)) (n : ℕ) (e : ℤ) → Receipt n e ≡ receipt_of terms embargo count first → (Receipt n e ≢ Receipt (count + 1) embargo) → first ≡ Some (n, e)
 receipt_first terms embargo count (Some was) n e h other = let f = receipt_fields n was.0 e was.1 h in ap (λ (k : ℕ). Some (k, was.1)) (sym f.0) ∙ ap (λ (x : ℤ). Some (n, x)) (sym f.1)
 receipt_first terms embargo count None n e h other = absurd (full (nat_lt count terms.limit) h)
   where
@@ -120,29 +122,31 @@ abbrev pub mark_at : ℕ → List Deposit → Option Bool
 mark_at n list = option_map (λ (e : Deposit). e.withdrawn) (held n list)
 
 marked_held : (n : ℕ) (state : List Deposit) (d : Deposit) → held n state ≡ Some d
-    → mark_at n (marked n state) ≡ Some true
+    → held n (marked n state) ≡ Some (mark d)
 marked_held zero state d at = absurd cc
 marked_held (suc n) [] d at = absurd cc
-marked_held (suc zero) (k ∷ state) d at = refl
+marked_held (suc zero) (k ∷ state) d at = ap (λ (x : Deposit). Some (mark x)) (same_Some k d at)
 marked_held (suc (suc n)) (k ∷ state) d at = marked_held (suc n) state d at
 
-pub withdrawn_held : (terms : Terms) (caller : Caller) (project : List ℕ) (number : ℕ) (day : ℤ)
+pub withdrawn_marked : WithdrawnIsMarked
+withdrawn_marked terms state next caller project number day is step =
+    let own = (withdrawn_own terms state caller project number day number is).1 in
+    let same : next ≡ marked number state = elim step [ inl h ↦ h.1 | inr h ↦ absurd (h.0 _ (own, refl)) ] in
+    (own.1.0, own.1.1, ap (held number) same ∙ marked_held number state own.1.0 own.1.1)
+
+withdrawn_held : (terms : Terms) (caller : Caller) (project : List ℕ) (number : ℕ) (day : ℤ)
     (state next : List Deposit) (n : ℕ) → IsReply terms state (withdraw caller project number day) (Withdrawn n)
     → IsNext terms state (withdraw caller project number day) next → mark_at n next ≡ Some true
 withdrawn_held terms caller project number day state next n is step =
-    let own = withdrawn_own terms state caller project number day n is in
-    let same : next ≡ marked number state = elim step [ inl h ↦ h.1 | inr h ↦ absurd (h.0 _ (own.1, refl)) ] in
-    ap (λ (l : List Deposit). mark_at n l) same ∙ ap (λ (k : ℕ). mark_at k (marked number state)) (sym own.0)
-    ∙ marked_held number state own.1.1.0 own.1.1.1
+    let own = (withdrawn_own terms state caller project number day n is).0 in
+    let asked = withdraw caller project number day in
+    let here = subst (λ (m : ℕ). IsReply terms state asked (Withdrawn m)) (sym own) is in
+    let has = withdrawn_marked terms state next caller project number day here step in
+    ap (λ (m : ℕ). mark_at m next) (sym own) ∙ ap (option_map (λ (d : Deposit). d.withdrawn)) has.2
 
 -- ---- the answers to a list
 
-pub held_sent : (n : ℕ) (state : List Deposit) (d : Deposit) → held n state ≡ Some d
-    → held n (sents state) ≡ Some d.sent
-held_sent zero state d at = absurd cc
-held_sent (suc i) state d at = sent_at state i d at
-
-pub sent_then : (n : ℕ) (state list : List Deposit) (d : Sent) → Grows state list → held n (sents state) ≡ Some d
+sent_then : (n : ℕ) (state list : List Deposit) (d : Sent) → Grows state list → held n (sents state) ≡ Some d
     → held n (sents list) ≡ Some d
 sent_then zero state list d grows at = absurd cc
 sent_then (suc i) state list d grows at =
@@ -150,7 +154,7 @@ sent_then (suc i) state list d grows at =
     let kept = grows i of.0 of.1 in
     sent_at list i kept.0 kept.1 ∙ ap (λ (x : Sent). Some x) (kept.2 ∙ of.2)
 
-pub mark_then : (n : ℕ) (state list : List Deposit) → Grows state list → mark_at n state ≡ Some true
+mark_then : (n : ℕ) (state list : List Deposit) → Grows state list → mark_at n state ≡ Some true
     → mark_at n list ≡ Some true
 mark_then zero state list grows is = absurd cc
 mark_then (suc i) state list grows is = by (slice_get state i) refl is
@@ -179,18 +183,9 @@ held_next terms state next (withdraw caller project number day) (Withdrawn n) is
     withdrawn_held terms caller project number day state next n is after
 held_next terms state next request a is after = tt
 
-failed_held : (list : List Deposit) (request : Asked) (a : Answer) → a ≡ StoreFailed → IsHeldIn list request a
-failed_held list request a e = subst (IsHeldIn list request) (sym e) (none request)
-  where
-    none : (r : Asked) → IsHeldIn list r StoreFailed
-    none (deposit caller project embargo bytes day) = tt
-    none r = tt
-
-all_failed : (list : List Deposit) (requests : List Asked) (answers : List Answer) → AreFailed requests answers
-    → AllZip (IsHeldIn list) requests answers
-all_failed list [] [] h = tt
-all_failed list (r ∷ requests) (a ∷ answers) h = (failed_held list r a h.0, all_failed list requests answers h.1)
-all_failed list requests answers h = absurd h
+none_held : (list : List Deposit) (r : Asked) → IsHeldIn list r StoreFailed
+none_held list (deposit caller project embargo bytes day) = tt
+none_held list r = tt
 
 is_store_failed : (a : Answer) → is_failed a ≡ true → a ≡ StoreFailed
 is_store_failed StoreFailed h = refl
@@ -209,8 +204,8 @@ lasts_step : (terms : Terms) (state : List Deposit) (r : Asked) (requests : List
     ((next : List Deposit) × IsAfter terms state r a next × AreAnswers terms next requests answers last)
     → Lasts terms state (r ∷ requests) (a ∷ answers) last list
 lasts_step terms state r requests a answers last list true fails is there rest w =
-    let failed = failed_held list r a (is_store_failed a fails) in
-    (grows_itself state last w.0, (failed, all_failed list requests answers w.1))
+    let failed = subst (IsHeldIn list r) (sym (is_store_failed a fails)) (none_held list r) in
+    (grows_itself state last w.0, (failed, all_failed (IsHeldIn list) (none_held list) requests answers w.1))
 lasts_step terms state r requests a answers last list false lives is there rest w =
     let more = rest w.0 w.2 in
     let grows = after_grows terms r state w.0 a lives w.1 in

@@ -8,7 +8,7 @@ use Rattle.std.proofs.lemmas.List.{drop_all, drop_more}
 use Rattle.reg_policy.specs.declared.rule.Rule.{Rule}
 use Rattle.reg_policy.specs.declared.callers.Caller.{Caller}
 use Rattle.reg_policy.specs.declared.subject.Decision.{Decision}
-use Rattle.reg_policy.specs.declared.subject.Decision.TheVariants.{Permit, Deny}
+use Rattle.reg_policy.specs.declared.subject.Decision.TheVariants.{Permit}
 use Rattle.reg_policy.specs.declared.subject.Verb.TheVariants as verbs
 use Rattle.reg_store.specs.Sent.{numbers_from}
 use Rattle.reg_store.specs.Deposit.{Deposit, sents}
@@ -19,11 +19,11 @@ use Rattle.reg_store.specs.declared.keep.KeepError.TheVariants as errors
 use Rattle.reg_desk.specs.Asked.{Asked, listing}
 use Rattle.reg_desk.specs.declared.answer.Listed.{Listed}
 use Rattle.reg_desk.specs.declared.answer.Answer.{Answer}
-use Rattle.reg_desk.specs.declared.answer.Answer.TheVariants.{Listing, Denied}
+use Rattle.reg_desk.specs.declared.answer.Answer.TheVariants.{Listing}
 use Rattle.reg_desk.specs.Machine.{Terms, decided, IsSeen, listed_of, IsListing, held, IsReply}
 use Rattle.reg_desk.specs.Serving.{AsksStore, IsLineFor, terms_at, OnlyReads, Serves, answer_of}
 use Rattle.reg_desk.proofs.Drawing.{held_at, same_kept}
-use Rattle.reg_desk.proofs.Serves.{asks_of, replies_at_once, refused_serves, replies_serves, permitted_reply, denied_reply, permit_stands}
+use Rattle.reg_desk.proofs.Serves.{asks_of, refused_serves, replies_serves, permitted_reply, permit_stands}
 
 -- ---- lines for numbers
 
@@ -178,10 +178,6 @@ module _ {K : Type 0} (keep : Ghosts K) (rules : List Rule) (caller : Caller) (p
   listing_asks k permit =
       asks_of Lists (IsReply terms state request) (λ reply is. permit_stands ruling k Lists reply permit is)
       ((λ n h. let e = h.2 in cc, λ h. let e = h.2 in cc), λ found h. let e = h.2 in cc, λ h. let e = h.2 in cc)
-
-  pub listing_denied : (m : ℕ) → keep.has_failed old ≡ false → ruling ≡ Deny m → Serves keep rules request old old (Denied m)
-  listing_denied m works deny =
-      replies_at_once keep rules request old (Denied m) works tt (denied_reply ruling m Lists deny) (inr (λ list change. change, refl))
 
   pub listing_unread : (new : K) (k : ℕ) (e : KeepError) → ruling ≡ Permit k → OnlyReads keep old new (is_store e) → e ≢ errors.Full
       → Serves keep rules request old new (answer_of e)

@@ -6,6 +6,7 @@ use Rattle.std.specs.Str.{bytes_eq}
 use Rattle.std.proofs.lemmas.Bool.{true≢false, and_parts, eqb-true, eqb-false}
 use Rattle.std.proofs.lemmas.Slice.Eq.{bytes_eq-Decides}
 use Rattle.ags_rows.specs.Contents.{Contents, contents_of}
+use Rattle.ags_rows.specs.Spelling.{Spells, line_of}
 use Rattle.ags_rows.specs.Writing.{group_names}
 use Rattle.ags_rows.proofs.Lemmas.{at_contained, once_apart}
 use Rattle.ags_dict.specs.Entries.{Entries}
@@ -25,7 +26,7 @@ use Rattle.reg_store.specs.Keep.{OfDeposit}
 use Rattle.reg_desk.specs.Serving.{OnlyReads}
 use Rattle.reg_desk.specs.Shown.{Look, IsPermitted, RowAt}
 use Rattle.reg_desk.specs.View.{IsLineOf, IsOpen, IsUnreadable, MayBeSeen, Sees, is_only, plain_lines, plain_row, project_line}
-use Rattle.reg_desk.proofs.Bridges.{HasAt, IsOfProject, at_first, at_later, of_first, of_later, lines_spelled}
+use Rattle.reg_desk.proofs.Bridges.{HasAt, IsOfProject, at_first, at_later, may_law, of_first, of_later, lines_spelled, project_spelled}
 use Rattle.reg_desk.proofs.Clean.{clean_formed, clean_keeps}
 
 -- ---- the row of PROJ among the DATA rows
@@ -48,28 +49,33 @@ found_later number r rows None other found = none_later number r rows other foun
 found_later number r rows (Some project) other found =
     (suc found.0, found.1 ∙ omega arith, at_later r rows (IsLineOf (project_line project)) found.0 found.2)
 
-found_line : (number : ℕ) (headings : List ℕ) (rows : List KeptRow) (found : List DataRow) → AllZip IsLineOf (plain_lines headings rows) found
+found_line : (number : ℕ) (above headings : List ℕ) (rows : List KeptRow) (found : List DataRow) → AllZip IsLineOf (plain_lines above headings rows) found
     → IsFound number found (project_from number headings rows)
-found_line number headings [] [] zip = λ n at. omega (arith, at.1.0)
-found_line number headings [] (r ∷ found) zip = absurd zip
-found_line number headings (row ∷ rows) found zip =
-    go (row.kind == 1) (row.kind == 4) (bytes_eq row.group (codes "PROJ")) refl (λ m heads more z. found_line m heads rows more z) found zip
+found_line number above headings [] [] zip = λ n at. omega (arith, at.1.0)
+found_line number above headings [] (r ∷ found) zip = absurd zip
+found_line number above headings (row ∷ rows) found zip =
+    go (row.kind == 1) (row.kind == 4) (row.kind == 0) (bytes_eq row.group (codes "PROJ")) refl (λ m name heads more z. found_line m name heads rows more z) found zip
   where
-    go : (a b c : Bool) → bytes_eq row.group (codes "PROJ") ≡ c
-        → ((m : ℕ) (heads : List ℕ) (more : List DataRow) → AllZip IsLineOf (plain_lines heads rows) more → IsFound m more (project_from m heads rows))
-        → (found : List DataRow) → AllZip IsLineOf (if a then plain_lines row.line rows else (if b then plain_row headings row ∷ plain_lines headings rows else plain_lines headings rows)) found
+    go : (a b c d : Bool) → bytes_eq row.group (codes "PROJ") ≡ d
+        → ((m : ℕ) (name heads : List ℕ) (more : List DataRow) → AllZip IsLineOf (plain_lines name heads rows) more → IsFound m more (project_from m heads rows))
+        → (found : List DataRow) → AllZip IsLineOf (if a then plain_lines above row.line rows
+        else (if b then plain_row above headings row ∷ plain_lines above headings rows else (if c then plain_lines row.line headings rows else plain_lines above headings rows))) found
         → IsFound number found (if a then project_from number row.line rows else (if b
-        then (if c then Some (record { number = number; headings = headings; line = row.line }) else project_from (number + 1) headings rows) else project_from number headings rows))
-    go true b c e more found z = more number row.line found z
-    go false false c e more found z = more number headings found z
-    go false true true e more (r ∷ found) z =
-        let line : IsLineOf (project_line (record { number = number; headings = headings; line = row.line })) r =
-        record { group = sym ((bytes_eq-Decides row.group (codes "PROJ")).0 e) ∙ z.0.group; headings = z.0.headings; fields = z.0.fields } in
-        (0, omega arith, at_first r found (IsLineOf (project_line (record { number = number; headings = headings; line = row.line }))) line)
-    go false true false e more (r ∷ found) z =
+        then (if d then Some (record { number = number; headings = headings; line = row.line }) else project_from (number + 1) headings rows) else project_from number headings rows))
+    go true b c d e more found z = more number above row.line found z
+    go false false true d e more found z = more number row.line headings found z
+    go false false false d e more found z = more number above headings found z
+    go false true c true e more (r ∷ found) z =
+        let project : ProjectRow = record { number = number; headings = headings; line = row.line } in
+        let is : codes "PROJ" ≡ r.group = sym ((bytes_eq-Decides row.group (codes "PROJ")).0 e) ∙ z.0.group in
+        let above_is : Spells (line_of (codes "GROUP" ∷ codes "PROJ" ∷ [])) (codes "GROUP" ∷ r.group ∷ []) =
+        subst (λ (g : List ℕ). Spells (line_of (codes "GROUP" ∷ codes "PROJ" ∷ [])) (codes "GROUP" ∷ g ∷ [])) is project_spelled in
+        let line : IsLineOf (project_line project) r = record { group = is; above = above_is; headings = z.0.headings; fields = z.0.fields; width = z.0.width } in
+        (0, omega arith, at_first r found (IsLineOf (project_line project)) line)
+    go false true c false e more (r ∷ found) z =
         found_later number r found (project_from (number + 1) headings rows) (λ is. true≢false (sym ((bytes_eq-Decides row.group (codes "PROJ")).1 (z.0.group ∙ is)) ∙ e))
-        (more (number + 1) headings found z.1)
-    go false true c e more [] z = absurd z
+        (more (number + 1) above headings found z.1)
+    go false true c d e more [] z = absurd z
 
 -- ---- Rule 13: a file without findings has one row of PROJ
 
@@ -110,14 +116,14 @@ one_project file clean n m a b =
 its_line : (file : CheckedFile) → IsClean file → (project : ProjectRow) → Some project ≡ project_of (kept_rows file.groups) → HasAt (data_rows (contents_of file.groups)) (IsLineOf (project_line project)) project.number
 its_line file clean project is =
     let found = subst (IsFound 0 (data_rows (contents_of file.groups))) (sym is)
-    (found_line 0 [] (kept_rows file.groups) (data_rows (contents_of file.groups)) (lines_spelled file.bytes file.groups clean.groups)) in
+    (found_line 0 [] [] (kept_rows file.groups) (data_rows (contents_of file.groups)) (lines_spelled file.bytes file.groups clean.groups)) in
     subst (λ (k : ℕ). HasAt (data_rows (contents_of file.groups)) (IsLineOf (project_line project)) k) (sym (found.1 ∙ omega arith)) found.2
 
 -- there is none
 pub open_none : (look : Look) (file : CheckedFile) (found : Option ProjectRow) → IsClean file → found ≡ None → found ≡ project_of (kept_rows file.groups) → IsOpen look file None
 open_none look file found clean none is = λ shows.
     subst (IsFound 0 (data_rows (contents_of file.groups))) (sym is ∙ none)
-    (found_line 0 [] (kept_rows file.groups) (data_rows (contents_of file.groups)) (lines_spelled file.bytes file.groups clean.groups)) shows.0 shows.1
+    (found_line 0 [] [] (kept_rows file.groups) (data_rows (contents_of file.groups)) (lines_spelled file.bytes file.groups clean.groups)) shows.0 shows.1
 
 -- it is not permitted
 pub open_hidden : (look : Look) (file : CheckedFile) (project : ProjectRow) (may : Bool) → IsClean file → Some project ≡ project_of (kept_rows file.groups) → MayBeSeen look (project_line project) may → may ≡ false → IsOpen look file None
@@ -127,7 +133,7 @@ open_hidden look file project may clean is law hidden = λ shows.
     let itself : RowAt (file_of file) (IsPermitted look) shows.0 = shows.2 shows.0 (reach_itself (StepAt (file_of file)) shows.0) in
     let there = subst (RowAt (file_of file) (IsPermitted look)) same itself in
     let row : there.0 ≡ line.0 = one_at (data_rows (contents_of file.groups)) project.number there.0 line.0 there.1 line.1 in
-    true≢false (sym ((law line.0 line.2).1 (subst (IsPermitted look) row there.2)) ∙ hidden)
+    true≢false (sym ((may_law look (project_line project) may law line.0 line.2).1 (subst (IsPermitted look) row there.2)) ∙ hidden)
 
 -- where each of the row's steps leads to itself, so does each
 only_target : (row target : ℕ) (steps : List (ℕ × ℕ)) → is_only row (targets_of row steps) ≡ true → Contains steps (row, target) → target ≡ row
@@ -150,7 +156,7 @@ only_target row target (step ∷ steps) only has = go (step.0 == row) refl (only
 pub open_shown : (look : Look) (file : CheckedFile) (project : ProjectRow) (may : Bool) → IsClean file → Some project ≡ project_of (kept_rows file.groups) → MayBeSeen look (project_line project) may → may ≡ true → IsOpen look file (Some project.number)
 open_shown look file project may clean is law permitted = λ only.
     let line = its_line file clean project is in
-    let own : RowAt (file_of file) (IsPermitted look) project.number = (line.0, line.1, (law line.0 line.2).0 permitted) in
+    let own : RowAt (file_of file) (IsPermitted look) project.number = (line.0, line.1, (may_law look (project_line project) may law line.0 line.2).0 permitted) in
     (project.number, (line.0, line.1, sym line.2.group), λ m walk. reach only own m walk.0 walk.1)
   where
     reach : is_only project.number (targets_of project.number file.graph.steps) ≡ true → RowAt (file_of file) (IsPermitted look) project.number → (m : ℕ) (rows : List ℕ) → IsWalk (StepAt (file_of file)) project.number rows m → RowAt (file_of file) (IsPermitted look) m

@@ -11,13 +11,14 @@ use Rattle.ags_rows.specs.Findings.{FileGroups}
 use Rattle.ags_rows.specs.Rows.{descriptor_text}
 use Rattle.ags_rows.specs.Writing.{ArePlain, IsPlainGroup}
 use Rattle.ags_rows.proofs.Lemmas.{read_plain}
+use Rattle.ags_links.specs.DataRows.{data_rows}
 use Rattle.ags_links.specs.Walks.{StepGraph}
 use Rattle.ags_check.specs.Findings.{CheckedFile}
 use Rattle.reg_store.specs.declared.keep.KeptRow.{KeptRow}
 use Rattle.reg_store.specs.Fit.{kept_row, group_rows, kept_rows}
 use Rattle.reg_desk.specs.Extract.{IsOfRows, IsRowOrEmpty}
-use Rattle.reg_desk.specs.View.{IsSpelledRow, IsViewOf, is_written, line_end, line_where, plain_lines, separator, text_from, with_group}
-use Rattle.reg_desk.proofs.Bridges.{kept_contents, lines_count, row_spelled}
+use Rattle.reg_desk.specs.View.{AreRows, IsSpelledRow, IsViewOf, is_written, line_end, line_where, plain_lines, separator, text_from, with_group}
+use Rattle.reg_desk.proofs.Bridges.{kept_contents, lines_count, lines_spelled, row_spelled}
 
 -- ---- texts that are made of rows
 
@@ -97,6 +98,11 @@ pub kept_are : (bytes : List ℕ) (groups : List Group) → FileGroups bytes gro
 kept_are bytes groups read = subst (λ (rows : List KeptRow). All IsSpelledRow rows) (sym (kept_contents groups)) (file_are (contents_of groups) (read_plain bytes groups read).1)
 
 -- the rows of a view are a file's
-pub not_broken : (rows : List KeptRow) (graph : StepGraph) (file : CheckedFile) → IsViewOf rows graph file → (All IsSpelledRow rows → length (plain_lines [] rows) ≢ graph.rows) → ⊥
+pub not_broken : (rows : List KeptRow) (graph : StepGraph) (file : CheckedFile) → IsViewOf rows graph file → (AreRows rows → length (plain_lines [] [] rows) ≢ graph.rows) → ⊥
 not_broken rows graph file view broken =
-    broken (subst (λ (l : List KeptRow). All IsSpelledRow l) (sym view.same_rows) (kept_are file.bytes file.groups view.clean.groups)) (lines_count (plain_lines [] rows) rows graph file refl view)
+    let are : AreRows (kept_rows file.groups) = record {
+      spelled = kept_are file.bytes file.groups view.clean.groups;
+      found = data_rows (contents_of file.groups);
+      lines = lines_spelled file.bytes file.groups view.clean.groups;
+    } in
+    broken (subst AreRows (sym view.same_rows) are) (lines_count (plain_lines [] [] rows) rows graph file refl view)

@@ -12,11 +12,12 @@ use Rattle.reg_desk.specs.Asked.{Asked, asked}
 use Rattle.reg_desk.specs.declared.request.Request.{Request}
 use Rattle.reg_desk.specs.declared.answer.Answer.{Answer}
 use Rattle.reg_desk.specs.declared.desk.Desk.{Desk}
-use Rattle.reg_desk.specs.Desks.{AnsweredBy, AreAnsweredBy}
+use Rattle.reg_desk.specs.Desks.{AnsweredBy, AreAnsweredBy, StepsAreARun, EndsARun}
 use Rattle.reg_desk.specs.Machine.{Terms, Changes}
 use Rattle.reg_desk.specs.Serving.{is_failed, IsAnswer, terms_at, Serves}
 use Rattle.reg_desk.specs.Running.{AreFailed, AreAnswers, failing, Runs, RunsIfSound}
 use Rattle.reg_desk.proofs.Bodies.{where_true, where_false}
+use Rattle.reg_desk.proofs.Lasting.{receipts_last}
 
 -- ---- the store of a desk that answers a list of requests
 
@@ -41,12 +42,12 @@ was_sound keep old new requests answers by sound = absurd by
 -- ---- the run
 
 -- a store that has not failed leaves its own list and no other
-abbrev Settled : {K : Type 0} → Ghosts K → Type 0
+abbrev pub Settled : {K : Type 0} → Ghosts K → Type 0
 Settled {K} keep = (k : K) (list : List Deposit) → keep.is_sound k → keep.has_failed k ≡ false → keep.may_leave k list
     → list ≡ keep.deposits k
 
 -- a store that has not failed leaves a register of some list
-abbrev Unbroken : {K : Type 0} → Ghosts K → Type 0
+abbrev pub Unbroken : {K : Type 0} → Ghosts K → Type 0
 Unbroken {K} keep = (k : K) → keep.is_sound k → keep.has_failed k ≡ false → keep.may_break k → ⊥
 
 -- the first answer is StoreFailed
@@ -122,7 +123,16 @@ desk_runs {K = K} keep old new (r ∷ requests) (a ∷ answers) settled unbroken
     ])
 desk_runs keep old new requests answers settled unbroken by sound works = absurd by
 
--- ---- the loop
+-- ---- the law
+
+pub steps_run : {K : Type 0} (keep : Ghosts K) → Settled keep → Unbroken keep → StepsAreARun keep
+steps_run keep settled unbroken old new requests answers by =
+    let runs = desk_runs keep old new requests answers settled unbroken by in (
+      runs,
+      λ sound works list may.
+          ∥∥₁_map (runs sound works) (λ (r : Runs keep old.policy old.keep new.keep requests answers).
+          receipts_last keep old.policy old.keep new.keep requests answers r list may),
+    )
 
 -- the next request goes to the desk that these left
 pub answered_more : {K : Type 0} (keep : Ghosts K) (old mid new : Desk K keep) (requests : List Asked) (answers : List Answer) (r : Asked) (a : Answer)
@@ -130,6 +140,14 @@ pub answered_more : {K : Type 0} (keep : Ghosts K) (old mid new : Desk K keep) (
 answered_more {K = K} keep old mid new [] [] r a h by = (new, subst (λ (d : Desk K keep). AnsweredBy keep d r a new) h by, refl)
 answered_more keep old mid new (q ∷ requests) (b ∷ answers) r a h by = (h.0, h.1, answered_more keep h.0 mid new requests answers r a h.2 by)
 answered_more keep old mid new requests answers r a h by = absurd h
+
+pub ends_run : {K : Type 0} (keep : Ghosts K) → Settled keep → Unbroken keep → (old new : Desk K keep) (request : Asked) (answer : Answer)
+    → AnsweredBy keep old request answer new → EndsARun keep old request answer new
+ends_run keep settled unbroken old new request answer by first requests answers before =
+    steps_run keep settled unbroken first new (requests ++ request ∷ []) (answers ++ answer ∷ [])
+    (answered_more keep first old new requests answers request answer before by)
+
+-- ---- the loop
 
 pub asked_more : (requests : List Request) (i : ℕ) (d : Request) → i < length requests → map asked (take (suc i) requests) ≡ map asked (take i requests) ++ asked (get_or requests i d) ∷ []
 asked_more [] i d lt = absurd (omega (arith, lt))

@@ -28,7 +28,7 @@ IsReceipt terms state caller project embargo bytes r =
 
 -- ---- a body that is taken
 
-clean_stands : (terms : Terms) (bytes : List ℕ) (P : Answer → Type 0) (r : Answer) → length bytes ≤ LIMIT → AreFindings terms.dictionary bytes [] → OrRefused terms bytes P r → P r
+pub clean_stands : (terms : Terms) (bytes : List ℕ) (P : Answer → Type 0) (r : Answer) → length bytes ≤ LIMIT → AreFindings terms.dictionary bytes [] → OrRefused terms bytes P r → P r
 clean_stands terms bytes P r small clean h =
     let Found = (found : List Finding) × AreFindings terms.dictionary bytes found × OrFound found P r in
     let found : Found = subst (λ (b : Bool). MatchBool b (r ≡ TooLarge) Found) (le-ltb LIMIT (length bytes) small) h in

@@ -9,7 +9,7 @@ use Rattle.ags_check.specs.Findings.{Findings as AreFindings}
 use Rattle.reg_policy.specs.declared.rule.Rule.{Rule}
 use Rattle.reg_policy.specs.declared.callers.Caller.{Caller}
 use Rattle.reg_policy.specs.declared.subject.Decision.{Decision}
-use Rattle.reg_policy.specs.declared.subject.Decision.TheVariants.{Permit, Deny}
+use Rattle.reg_policy.specs.declared.subject.Decision.TheVariants.{Permit}
 use Rattle.reg_policy.specs.declared.subject.Verb.TheVariants as verbs
 use Rattle.reg_store.specs.Sent.{Sent, number_of}
 use Rattle.reg_store.specs.Deposit.{Deposit, sents, unmarked}
@@ -21,13 +21,13 @@ use Rattle.reg_store.specs.declared.keep.KeptHead.{KeptHead}
 use Rattle.reg_store.specs.declared.keep.KeepError.TheVariants as errors
 use Rattle.reg_desk.specs.Asked.{Asked, deposit}
 use Rattle.reg_desk.specs.declared.answer.Answer.{Answer}
-use Rattle.reg_desk.specs.declared.answer.Answer.TheVariants.{Receipt, Denied, Full}
+use Rattle.reg_desk.specs.declared.answer.Answer.TheVariants.{Receipt, Full}
 use Rattle.reg_desk.specs.Machine.{Terms, decided, OrRefused, first_equal, receipt_of, IsReply, IsTaken, asked_deposit, IsNext}
 use Rattle.reg_desk.specs.Serving.{AsksStore, IsRefusal, terms_at, OnlyReads, Serves, answer_of}
 use Rattle.reg_desk.proofs.Taken.{IsReceipt, taken_received}
 use Rattle.reg_desk.proofs.Firsts.{first_some}
 use Rattle.reg_desk.proofs.Bodies.{refused_none, refusal_serves}
-use Rattle.reg_desk.proofs.Serves.{Makes, IsMaking, made_serves, unmade_serves, one_owed, asks_of, replies_at_once, refused_serves, replies_serves, permitted_reply, denied_reply}
+use Rattle.reg_desk.proofs.Serves.{Makes, IsMaking, made_serves, unmade_serves, one_owed, asks_of, refused_serves, replies_serves, permitted_reply}
 
 -- ---- the reply
 
@@ -137,11 +137,6 @@ module _ {K : Type 0} (keep : Ghosts K) (rules : List Rule) (caller : Caller) (p
   -- a reply that is not the receipt of a new deposit takes nothing
   untaken : (answer : Answer) → answer ≢ Receipt (length state + 1) embargo → IsReply terms state request answer → IsNext terms state request state
   untaken answer other is = inr (λ list change. other ((taken_received terms state caller project embargo bytes day answer is).0 change.0), refl)
-
-  pub deposit_denied : (m : ℕ) → keep.has_failed old ≡ false → ruling ≡ Deny m → Serves keep rules request old old (Denied m)
-  deposit_denied m works deny =
-      let is = denied_reply ruling m (OrRefused terms bytes Stands) deny in
-      replies_at_once keep rules request old (Denied m) works tt is (untaken (Denied m) (λ e. absurd cc) is)
 
   pub deposit_refused : (answer : Answer) (k : ℕ) → keep.has_failed old ≡ false → ruling ≡ Permit k → IsRefusal (keep.dictionary old) bytes answer
       → Serves keep rules request old old answer

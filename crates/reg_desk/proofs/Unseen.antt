@@ -1,29 +1,24 @@
 -- A withdrawn deposit stays kept, and is neither listed nor drawn.
-use Rattle.std.proofs.Common.{◌≡◌, ◌≢◌, ℕ, suc, ◌+◌, Bool, true, false, Some, List, [], ◌∷◌, refl, sym, ap, subst, ◌∙◌, inl, inr, ◌⊎◌, arith}
+use Rattle.std.proofs.Common.{◌≡◌, ◌≢◌, ℕ, zero, suc, ◌+◌, Bool, true, false, Some, List, [], ◌∷◌, refl, sym, ap, subst, ◌∙◌, inl, inr, ◌⊎◌, arith}
 use Rattle.std.specs.Prelude.{ℤ, slice_get, MatchBool, option_map}
-use Rattle.std.specs.List.{AllByRecursion}
+use Rattle.std.specs.List.{AllByRecursion, AllZip}
 use Rattle.std.specs.Str.{bytes_eq}
 use Rattle.std.proofs.lemmas.Bool.{true≢false}
 use Rattle.std.proofs.lemmas.Option.{same_Some}
 use Rattle.reg_policy.specs.declared.callers.Caller.{Caller}
 use Rattle.reg_policy.specs.declared.subject.Verb.TheVariants as verbs
+use Rattle.reg_store.specs.Sent.{Sent}
 use Rattle.reg_store.specs.Deposit.{Deposit}
-use Rattle.reg_desk.specs.Asked.{Asked, listing, withdraw}
+use Rattle.reg_desk.specs.Asked.{Asked, extract, listing}
 use Rattle.reg_desk.specs.declared.answer.Listed.{Listed}
 use Rattle.reg_desk.specs.declared.answer.Answer.{Answer}
-use Rattle.reg_desk.specs.declared.answer.Answer.TheVariants.{Listing}
-use Rattle.reg_desk.specs.Machine.{Terms, decided, IsSeen, listed_of, IsListing, held, IsReply, IsRun}
-use Rattle.reg_desk.specs.Laws.{WithdrawnStaysHidden}
-use Rattle.reg_desk.proofs.Taken.{not_denied, withdrawn_own}
+use Rattle.reg_desk.specs.declared.answer.Answer.TheVariants.{Listing, NoMemory, StoreFailed, Text}
+use Rattle.reg_desk.specs.Machine.{Terms, decided, IsSeen, listed_of, IsListing, held, IsReply, IsNext}
+use Rattle.reg_desk.specs.Laws.{DesksHideWithdrawn, Hides, WithdrawnStaysHidden}
+use Rattle.reg_desk.proofs.ModelAnswers.{all_failed, first_answer}
+use Rattle.reg_desk.proofs.Taken.{not_denied}
 use Rattle.reg_desk.proofs.Runs.{given_by}
-use Rattle.reg_desk.proofs.Lasting.{Grows, grows_itself, grows_then, next_grows, mark_at, mark_then, held_sent, sent_then, withdrawn_held}
-
-run_grows : (terms : Terms) (state : List Deposit) (requests : List Asked) (replies : List Answer)
-    (final : List Deposit) → IsRun terms state requests replies final → Grows state final
-run_grows terms state [] replies final run = grows_itself state final run.1
-run_grows terms state (r ∷ requests) replies final run =
-    grows_then state run.2 final (next_grows terms r state run.2 run.5)
-    (run_grows terms run.2 requests run.1 final run.6)
+use Rattle.reg_desk.proofs.Lasting.{mark_at, next_grows}
 
 -- what has the mark is no deposit without it
 not_seen : (number : ℕ) (state : List Deposit) (d : Deposit) → mark_at number state ≡ Some true
@@ -70,20 +65,73 @@ unlisted terms state number marked caller project day lines h =
     not_seen number state d marked (ap (λ (m : ℕ). held m state) place ∙ at) is)
     lines (subst (IsListing terms caller project day 1 state) (sym same) found.1)
 
+-- each reply hides it
+hides : (terms : Terms) (state : List Deposit) (number : ℕ) → mark_at number state ≡ Some true → (request : Asked)
+    (reply : Answer) → IsReply terms state request reply → Hides number request reply
+hides terms state number marked (listing caller project day) (Listing lines) is =
+    unlisted terms state number marked caller project day lines is
+hides terms state number marked (extract caller project n groups day) (Text text) is = λ same.
+    let given = given_by terms state caller project n groups day text is in
+    let at = subst (λ (m : ℕ). held m state ≡ Some given.0) same given.1 in
+    not_seen number state given.0 marked at given.2.0.0
+hides terms state number marked request reply is = tt
+
+-- ---- in later states
+
+same_deposit : (d e : Deposit) → d.sent ≡ e.sent → d.withdrawn ≡ e.withdrawn → d ≡ e
+same_deposit d e sent mark =
+    ap (λ (s : Sent). record { sent = s; withdrawn = d.withdrawn }) sent
+    ∙ ap (λ (t : Bool). record { sent = e.sent; withdrawn = t }) mark
+
+-- a deposit with its mark stays as it is
+stays_marked : (terms : Terms) (request : Asked) (state next : List Deposit) (number : ℕ) (kept : Deposit)
+    → IsNext terms state request next → held number state ≡ Some kept → kept.withdrawn ≡ true
+    → held number next ≡ Some kept
+stays_marked terms request state next zero kept step at is = absurd cc
+stays_marked terms request state next (suc i) kept step at is =
+    let later = next_grows terms request state next step i kept at in
+    later.1 ∙ ap (λ (d : Deposit). Some d) (same_deposit later.0 kept later.2 (later.3 is ∙ sym is))
+
+has_mark : (number : ℕ) (state : List Deposit) (kept : Deposit) → held number state ≡ Some kept
+    → kept.withdrawn ≡ true → mark_at number state ≡ Some true
+has_mark number state kept at is =
+    ap (option_map (λ (d : Deposit). d.withdrawn)) at ∙ ap (λ (t : Bool). Some t) is
+
 pub withdrawn_hidden : WithdrawnStaysHidden
-withdrawn_hidden terms state next caller project number day is step requests replies final run =
-    let own = (withdrawn_own terms state caller project number day number is).1.1 in
-    let later = run_grows terms next requests replies final run in
-    let request = withdraw caller project number day in
-    let grows = grows_then state next final (next_grows terms request state next step) later in
-    let held_so = withdrawn_held terms caller project number day state next number is step in
-    let marked = mark_then number next final later held_so in
-    let sent = held_sent number state own.0 own.1 in (
-      sent_then number state final own.0.sent grows sent ∙ sym sent,
-      record {
-        unlisted = unlisted terms final number marked;
-        undrawn = λ by_caller of groups on text h.
-            let given = given_by terms final by_caller of number groups on text h in
-            not_seen number final given.0 marked given.1 given.2.0.0;
-      },
-    )
+withdrawn_hidden terms state number kept at is [] replies final run =
+    (ap (held number) run.1 ∙ at, subst (AllZip (Hides number) []) (sym run.0) tt)
+withdrawn_hidden terms state number kept at is (r ∷ requests) replies final run =
+    let later = stays_marked terms r state run.2 number kept run.5 at is in
+    let rest = withdrawn_hidden terms run.2 number kept later is requests run.1 final run.6 in
+    let here = hides terms state number (has_mark number state kept at is) r run.0 run.4 in
+    (rest.0, subst (AllZip (Hides number) (r ∷ requests)) (sym run.3) (here, rest.1))
+
+failure_hides : (number : ℕ) (r : Asked) → Hides number r StoreFailed
+failure_hides number (listing caller project day) = tt
+failure_hides number (extract caller project n groups day) = tt
+failure_hides number r = tt
+
+no_memory_hides : (number : ℕ) (r : Asked) → Hides number r NoMemory
+no_memory_hides number (listing caller project day) = tt
+no_memory_hides number (extract caller project n groups day) = tt
+no_memory_hides number r = tt
+
+pub desks_hide : DesksHideWithdrawn
+desks_hide terms state number kept at is [] [] last h = (ap (held number) h ∙ at, tt)
+desks_hide terms state number kept at is (r ∷ requests) (a ∷ answers) last h =
+    elim (first_answer terms state r requests a answers last h) [
+      | inl failed ↦ (
+        ap (held number) failed.1 ∙ at,
+        (subst (Hides number r) (sym failed.0) (failure_hides number r), all_failed (Hides number) (failure_hides number) requests answers failed.2),
+      )
+      | inr lives ↦ elim lives [
+        | inl dry ↦
+            let rest = desks_hide terms state number kept at is requests answers last dry.1 in
+            (rest.0, (subst (Hides number r) (sym dry.0) (no_memory_hides number r), rest.1))
+        | inr was ↦
+            let later = stays_marked terms r state was.2 number kept was.3 at is in
+            let rest = desks_hide terms was.2 number kept later is requests answers last was.4 in
+            (rest.0, (hides terms state number (has_mark number state kept at is) r a was.1, rest.1))
+      ]
+    ]
+desks_hide terms state number kept at is requests answers last h = absurd h

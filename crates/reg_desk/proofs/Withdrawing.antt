@@ -7,7 +7,7 @@ use Rattle.std.proofs.lemmas.Option.{same_Some, slice_get_within}
 use Rattle.reg_policy.specs.declared.rule.Rule.{Rule}
 use Rattle.reg_policy.specs.declared.callers.Caller.{Caller}
 use Rattle.reg_policy.specs.declared.subject.Decision.{Decision}
-use Rattle.reg_policy.specs.declared.subject.Decision.TheVariants.{Permit, Deny}
+use Rattle.reg_policy.specs.declared.subject.Decision.TheVariants.{Permit}
 use Rattle.reg_policy.specs.declared.subject.Verb.TheVariants as verbs
 use Rattle.reg_store.specs.Deposit.{Deposit, marked}
 use Rattle.reg_store.proofs.Lemmas.{marked_again}
@@ -18,12 +18,12 @@ use Rattle.reg_store.specs.declared.keep.KeepError.TheVariants as errors
 use Rattle.reg_store.specs.declared.keep.KeptHead.{KeptHead}
 use Rattle.reg_desk.specs.Asked.{Asked, withdraw}
 use Rattle.reg_desk.specs.declared.answer.Answer.{Answer}
-use Rattle.reg_desk.specs.declared.answer.Answer.TheVariants.{Denied, Unknown, Withdrawn}
+use Rattle.reg_desk.specs.declared.answer.Answer.TheVariants.{Unknown, Withdrawn}
 use Rattle.reg_desk.specs.Machine.{Terms, decided, held, is_own, withdrawal_of, IsReply}
 use Rattle.reg_desk.specs.Serving.{AsksStore, mark_of, terms_at, OnlyReads, Serves, answer_of}
 use Rattle.reg_desk.proofs.Drawing.{held_at}
 use Rattle.reg_desk.proofs.Taken.{own_reply}
-use Rattle.reg_desk.proofs.Serves.{Makes, IsMaking, made_serves, unmade_serves, asks_of, replies_at_once, refused_serves, replies_serves, permitted_reply, denied_reply, permit_stands}
+use Rattle.reg_desk.proofs.Serves.{Makes, IsMaking, made_serves, unmade_serves, asks_of, refused_serves, replies_serves, permitted_reply, permit_stands}
 
 -- ---- the mark of a firm's own deposit
 
@@ -131,11 +131,6 @@ module _ {K : Type 0} (keep : Ghosts K) (rules : List Rule) (caller : Caller) (p
 
   abbrev ruling : Decision
   ruling = decided terms caller project verbs.Withdraw day
-
-  pub withdraw_denied : (m : ℕ) → keep.has_failed old ≡ false → ruling ≡ Deny m → Serves keep rules request old old (Denied m)
-  withdraw_denied m works deny =
-      replies_at_once keep rules request old (Denied m) works tt (denied_reply ruling m (IsWithdrawal state caller project number) deny)
-      (inr (λ list change. let never = sym deny ∙ change.0.0.1 in cc, refl))
 
   pub withdraw_unread : (new : K) (k : ℕ) (e : KeepError) → ruling ≡ Permit k → OnlyReads keep old new (is_store e) → e ≢ errors.Full
       → Serves keep rules request old new (answer_of e)

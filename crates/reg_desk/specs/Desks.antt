@@ -1,5 +1,5 @@
 -- What one request is answered by a desk.
-use Rattle.std.specs.Prelude.{◌≡◌, ℕ, List, [], ◌∷◌, Some, true, false}
+use Rattle.std.specs.Prelude.{◌≡◌, ℕ, List, [], ◌∷◌, ◌++◌, Some, true, false}
 use Rattle.ags_check.specs.Findings.{Findings as AreFindings}
 use Rattle.reg_policy.specs.declared.rule.Rule.{Rule}
 use Rattle.reg_store.specs.Deposit.{Deposit}
@@ -10,6 +10,7 @@ use Rattle.reg_desk.specs.declared.desk.Desk.{Desk}
 use Rattle.reg_desk.specs.Asked.{Asked, extract}
 use Rattle.reg_desk.specs.Laws.{WasExtracted, IsShownWhole}
 use Rattle.reg_desk.specs.Machine.{held}
+use Rattle.reg_desk.specs.Running.{RunsIfSound, ReceiptsSurviveIfSound}
 use Rattle.reg_desk.specs.Serving.{is_failed, terms_at, Serves, ShowsRows}
 
 -- The desk before, what it is asked, its answer, and the desk after. A desk that failed answers StoreFailed and keeps
@@ -30,6 +31,23 @@ AreAnsweredBy keep old [] [] new = new ≡ old
 AreAnsweredBy {K} keep old (request ∷ requests) (answer ∷ answers) new =
     (next : Desk K keep) × AnsweredBy keep old request answer next × AreAnsweredBy keep next requests answers new
 AreAnsweredBy keep old _ _ new = ⊥
+
+-- A list of answers: what it is of the reference model (`Runs`), and that each receipt and each answered withdrawal
+-- survives a crash.
+abbrev pub AreOfModel : {K : Type 0} (keep : Ghosts K) → Desk K keep → List Asked → List Answer → Desk K keep → Type 0
+AreOfModel keep old requests answers new =
+    RunsIfSound keep old requests answers new × ReceiptsSurviveIfSound keep old requests answers new
+
+-- Over this store, any list of requests whose answers were given one after the other has answers of the reference model.
+abbrev pub StepsAreARun : {K : Type 0} → Ghosts K → Type 0
+StepsAreARun {K} keep = (old new : Desk K keep) (requests : List Asked) (answers : List Answer)
+    → AreAnsweredBy keep old requests answers new → AreOfModel keep old requests answers new
+
+-- Whichever requests a desk answered before, these answers and the one to this request are of the reference model.
+abbrev pub EndsARun : {K : Type 0} (keep : Ghosts K) → Desk K keep → Asked → Answer → Desk K keep → Type 0
+EndsARun {K} keep old request answer new = (first : Desk K keep) (requests : List Asked) (answers : List Answer)
+    → AreAnsweredBy keep first requests answers old
+    → AreOfModel keep first (requests ++ request ∷ []) (answers ++ answer ∷ []) new
 
 -- where the answer is a text, it is a file without findings under the store's dictionary
 abbrev pub IsCleanText : {K : Type 0} → Ghosts K → K → Answer → Type 0

@@ -2,9 +2,9 @@
 
 ghost use Rattle.std.specs.Prelude.{◌≡◌, false};
 ghost use Rattle.std.specs.Str.{bytes_eq};
-ghost use Rattle.reg_policy.specs.Decision.{decision_of, request_question};
 ghost use Rattle.reg_desk.specs.Asked.{asked};
-ghost use Rattle.reg_desk.specs.Serving.{Serves, ShowsRows, answer_of};
+ghost use Rattle.reg_desk.specs.Machine.{question_of};
+ghost use Rattle.reg_desk.specs.Serving.{Serves, ServesPermitted, ShowsRows, answer_of};
 
 mod body;
 mod deposit;
@@ -14,16 +14,16 @@ mod withdrawal;
 
 use crate::answer::Answer;
 use crate::request::Request;
-use crate::serving::body::serve_check;
+use crate::serving::body::check_body;
 use crate::serving::deposit::serve_deposit;
 use crate::serving::drawing::serve_extract;
 use crate::serving::listing::serve_listing;
 use crate::serving::withdrawal::serve_withdraw;
-use reg_policy::{Caller, Day, Decision, Name, Policy, Subject, Verb};
+use reg_policy::{Decision, Name, Policy, Subject, Verb};
 use reg_store::{Keep, KeepError};
 use std::alloc::Global;
 
-/// Answers a request.
+/// Answers a request, if the policy permits it.
 #[tactic(none)]
 pub(crate) fn serve<K: Keep>(
     alloc: Global,
@@ -35,20 +35,70 @@ pub(crate) fn serve<K: Keep>(
     ensures serves { Serves K.Keep policy.now (asked request.entry.now) keep.old keep.new result }
     ensures rows { ShowsRows (asked request.entry.now) result }
 {
+    match policy.decide(&subject_of(request)) {
+        Decision::Deny(rule) => Answer::Denied(rule),
+        Decision::Permit(_rule) => serve_permitted(alloc, keep, policy, request),
+    }
+}
+
+/// The question to the policy on a request.
+fn subject_of<'x>(request: &Request<'x>) -> Subject<'x>
+    ensures { result ≡ question_of (asked request.entry.now) }
+{
+    match *request {
+        Request::Deposit {
+            caller,
+            project,
+            day,
+            ..
+        } => { Subject::of_request(caller, project, Verb::Deposit, day) }
+        Request::Check {
+            caller,
+            project,
+            day,
+            ..
+        } => { Subject::of_request(caller, project, Verb::Check, day) }
+        Request::List {
+            caller,
+            project,
+            day,
+        } => { Subject::of_request(caller, project, Verb::List, day) }
+        Request::Extract {
+            caller,
+            project,
+            day,
+            ..
+        } => { Subject::of_request(caller, project, Verb::Extract, day) }
+        Request::Withdraw {
+            caller,
+            project,
+            day,
+            ..
+        } => { Subject::of_request(caller, project, Verb::Withdraw, day) }
+    }
+}
+
+/// Answers a request that the policy permits.
+#[tactic(none)]
+fn serve_permitted<K: Keep>(
+    alloc: Global,
+    keep: &mut K,
+    policy: &Policy,
+    request: &Request<'_>,
+) -> Answer
+    requires { K.has_failed keep.old ≡ false }
+    ensures serves { ServesPermitted K.Keep policy.now (asked request.entry.now) keep.old keep.new result }
+    ensures rows { ShowsRows (asked request.entry.now) result }
+{
     match *request {
         Request::Deposit {
             caller,
             project,
             embargo,
             bytes,
-            day,
-        } => serve_deposit(alloc, keep, policy, caller, project, embargo, bytes, day),
-        Request::Check {
-            caller,
-            project,
-            bytes,
-            day,
-        } => serve_check(alloc, keep, policy, caller, project, bytes, day),
+            ..
+        } => serve_deposit(alloc, keep, caller, project, embargo, bytes),
+        Request::Check { bytes, .. } => check_body(alloc, keep.dictionary(), bytes),
         Request::List {
             caller,
             project,
@@ -65,22 +115,9 @@ pub(crate) fn serve<K: Keep>(
             caller,
             project,
             number,
-            day,
-        } => serve_withdraw(keep, policy, caller, project, number, day),
+            ..
+        } => serve_withdraw(keep, caller, project, number),
     }
-}
-
-/// What the policy decides of a request.
-fn decide_request<'x>(
-    policy: &Policy,
-    caller: &'x Caller,
-    project: &'x Name,
-    verb: Verb,
-    day: Day,
-) -> Decision
-    ensures { result ≡ decision_of policy.now (request_question caller.now project.now verb day) }
-{
-    policy.decide(&Subject::of_request(caller, project, verb, day))
 }
 
 /// The answer where the store refuses.

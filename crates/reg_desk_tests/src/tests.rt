@@ -3,6 +3,7 @@
 ghost use Rattle.std.specs.Prelude.{◌≡◌, ◌≤◌, ◌<◌, false};
 
 mod bodies;
+mod caller;
 mod examples;
 mod failing;
 mod junk;
@@ -15,6 +16,7 @@ mod refusing;
 mod requests;
 mod stops;
 mod stores;
+mod table_caller;
 mod wanted;
 
 use ags_dict::Dictionary;
@@ -139,8 +141,8 @@ pub enum Play {
     Runs,
     /// Five requests are asked, each until it is answered otherwise than out of memory; withdrawals are permitted.
     Again,
-    /// Four requests are asked after a deposit of this body.
-    AfterDeposit(&'static Body),
+    /// These steps are asked after a deposit of this body; withdrawals are permitted.
+    AfterDeposit(Body, &'static [Step]),
     /// The store alone is asked, without a desk: for the second file as its first deposit.
     Kept,
     /// The same of tables: they are made those of a register of format 1, and migrated. No other store is asked.
@@ -208,7 +210,9 @@ fn answers<K: Keep>(
         Play::Steps(steps) | Play::Under(_, steps) => hold(alloc, desk, callers, project, steps),
         Play::Runs => runs_out_once(alloc, desk, callers, project),
         Play::Again => Ok(is_answered_again(alloc, desk, callers, project)),
-        Play::AfterDeposit(body) => answers_after_deposit(alloc, desk, callers, project, body),
+        Play::AfterDeposit(body, steps) => {
+            answers_after_deposit(alloc, desk, callers, project, &body, steps)
+        }
         Play::Kept | Play::Migrated => Ok(true),
     }
 }
@@ -364,7 +368,7 @@ fn plays_over(
 fn policy_for(alloc: Global, play: Play) -> Option<Policy> {
     match play {
         Play::Under(added, _) => policy_with(alloc, &added),
-        Play::Runs | Play::Again => policy_with(alloc, &WITHDRAWALS),
+        Play::Runs | Play::Again | Play::AfterDeposit(_, _) => policy_with(alloc, &WITHDRAWALS),
         _ => Policy::read(alloc, POLICY).ok(),
     }
 }

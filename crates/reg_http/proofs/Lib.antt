@@ -4,7 +4,6 @@ pub mod WriteLemmas
 pub mod FieldLemmas
 pub mod BodyLemmas
 pub mod SeekLemmas
-pub mod GroupLemmas
 pub mod RouteWalk
 pub mod RenderLemmas
 pub mod PlainLemmas

@@ -17,4 +17,3 @@ pub mod Reading
 pub mod Serving
 pub mod Sides
 pub mod Connections
-pub mod Summaries

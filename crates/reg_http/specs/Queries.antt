@@ -1,19 +1,18 @@
 -- What the parameters of path and query ask.
-use Rattle.std.specs.Prelude.{ℕ, ℤ, List, [], ◌∷◌, Option, Some, None, Result, Ok, Err, codes, if◌then◌else◌}
-use Rattle.std.specs.List.{list_all}
+use Rattle.std.specs.Prelude.{ℕ, ℤ, List, [], ◌∷◌, Option, Some, None, Result, Ok, Err, codes, ok_or, if◌then◌else◌}
 use Rattle.std.specs.Str.{bytes_eq}
 use Rattle.std.specs.Str.Lossy.{utf8_lossy}
-use Rattle.form_urlencoded.specs.Form.{decode, split}
-use Rattle.ags_text.specs.Bytes.{comma}
-use Rattle.ags_text.specs.Names.{is_group_name}
+use Rattle.form_urlencoded.specs.Form.{decode}
 use Rattle.reg_policy.specs.Names.{is_name}
 use Rattle.reg_policy.specs.Days.{day_of}
+use Rattle.reg_policy.specs.declared.subject.Verb.{Verb}
+use Rattle.reg_policy.specs.declared.subject.Verb.TheVariants as verbs
+use Rattle.reg_request.specs.Asks.{Sought, deposit, check, listing, extract, withdraw}
+use Rattle.reg_request.specs.Groups.{are_group_names, groups_in}
+use Rattle.reg_request.specs.Numbers.{deposit_number}
 use Rattle.reg_http.specs.Agree.{and_then}
-use Rattle.reg_http.specs.Numbers.{deposit_number}
 use Rattle.reg_http.specs.declared.refusal.Refusal.{Refusal}
-use Rattle.reg_http.specs.declared.refusal.Refusal.TheVariants.{BadParameter}
-use Rattle.reg_http.specs.declared.request.route.Kind.{Kind}
-use Rattle.reg_http.specs.declared.request.route.Kind.TheVariants as kinds
+use Rattle.reg_http.specs.declared.refusal.Refusal.TheVariants.{BadParameter, Method}
 
 -- what an encoded name or value is read as: `+` and percent escapes decoded
 abbrev pub decoded : List ℕ → List ℕ
@@ -29,14 +28,6 @@ value_of name [] = Ok None
 value_of name (pair ∷ []) = if bytes_eq (decoded pair.0) name then Ok (Some (decoded pair.1)) else Err BadParameter
 value_of name (pair ∷ other ∷ pairs) = Err BadParameter
 
--- what is asked, without caller, project and body
-pub data Sought : Type 0 where
-  deposit : (embargo : ℤ) → Sought
-  check : Sought
-  listing : Sought
-  extract : (number : ℕ) (groups : List (List ℕ)) → Sought
-  withdraw : (number : ℕ) → Sought
-
 abbrev pub embargo_by : Option ℤ → Result Sought Refusal
 embargo_by None = Err BadParameter
 embargo_by (Some day) = Ok (deposit day)
@@ -46,38 +37,30 @@ abbrev pub embargo_in : ℤ → Option (List ℕ) → Result Sought Refusal
 embargo_in day None = Ok (deposit day)
 embargo_in day (Some text) = embargo_by (day_of text)
 
--- the groups that a text lists, with commas between them; an empty text lists none, which asks for all
-abbrev pub groups_in : List ℕ → List (List ℕ)
-groups_in [] = []
-groups_in (b ∷ text) = split comma (b ∷ text)
-
 -- the groups of an extract
 abbrev pub extract_in : ℕ → Option (List ℕ) → Result Sought Refusal
 extract_in number None = Ok (extract number [])
 extract_in number (Some text) =
-    if list_all is_group_name (groups_in text) then Ok (extract number (groups_in text)) else Err BadParameter
-
--- the extract that a number and the pairs of a query ask
-abbrev pub extract_sought : List ℕ → List (List ℕ × List ℕ) → Result Sought Refusal
-extract_sought number pairs =
-    and_then (deposit_number number) (λ n. and_then (value_of (codes "groups") pairs) (extract_in n))
+    if are_group_names text then Ok (extract number (groups_in text)) else Err BadParameter
 
 -- what has no parameter
 abbrev pub bare : Sought → List (List ℕ × List ℕ) → Result Sought Refusal
 bare sought [] = Ok sought
 bare sought (pair ∷ pairs) = Err BadParameter
 
--- the withdrawal that a number and the pairs of a query ask
-abbrev pub withdraw_sought : List ℕ → List (List ℕ × List ℕ) → Result Sought Refusal
-withdraw_sought number pairs = and_then (deposit_number number) (λ n. bare (withdraw n) pairs)
+-- the number of a deposit in a path
+abbrev pub number_in_path : List ℕ → Result ℕ Refusal
+number_in_path number = ok_or (deposit_number number) BadParameter
 
--- what a request of this kind asks, by the number in its path, the pairs of its query and the day of serving
-abbrev pub sought_in : Kind → List ℕ → List (List ℕ × List ℕ) → ℤ → Result Sought Refusal
-sought_in kinds.Check number pairs day = bare check pairs
-sought_in kinds.Deposit number pairs day = and_then (value_of (codes "embargo") pairs) (embargo_in day)
-sought_in kinds.List number pairs day = bare listing pairs
-sought_in kinds.Extract number pairs day = extract_sought number pairs
-sought_in kinds.Withdraw number pairs day = withdraw_sought number pairs
+-- what a request of this verb asks, by the number in its path, the pairs of its query and the day of serving
+abbrev pub sought_in : Verb → List ℕ → List (List ℕ × List ℕ) → ℤ → Result Sought Refusal
+sought_in verbs.Check number pairs day = bare check pairs
+sought_in verbs.Deposit number pairs day = and_then (value_of (codes "embargo") pairs) (embargo_in day)
+sought_in verbs.List number pairs day = bare listing pairs
+sought_in verbs.Extract number pairs day =
+    and_then (number_in_path number) (λ n. and_then (value_of (codes "groups") pairs) (extract_in n))
+sought_in verbs.Withdraw number pairs day = and_then (number_in_path number) (λ n. bare (withdraw n) pairs)
+sought_in verbs.See number pairs day = Err Method
 
 abbrev pub project_in_path : List ℕ → Result (List ℕ) Refusal
 project_in_path text = if is_name text then Ok text else Err BadParameter

@@ -1,6 +1,6 @@
--- The routes of the register, with what each method asks of them: the one table of routes, methods and kinds.
+-- The routes of the register, with what each method asks of them: the one table of routes, methods and verbs.
 use Rattle.std.specs.Prelude.{ℕ, List, [], ◌∷◌, ◌++◌, Bool, true, false, Option, Some, None, Result, Ok, Err, codes}
-use Rattle.std.specs.Prelude.{unwrap_or, if◌then◌else◌}
+use Rattle.std.specs.Prelude.{unwrap_or, ok_or, if◌then◌else◌}
 use Rattle.std.specs.Str.{bytes_eq}
 use Rattle.matchit.specs.Rows.{RowsOf, param_token}
 use Rattle.matchit.specs.Router.{RouteOf}
@@ -10,8 +10,8 @@ use Rattle.matchit.specs.declared.params.Params.{Params}
 use Rattle.reg_http.specs.declared.refusal.Refusal.{Refusal}
 use Rattle.reg_http.specs.declared.refusal.Refusal.TheVariants.{NoRoute, Method}
 use Rattle.reg_http.specs.declared.request.route.Page.{Page}
-use Rattle.reg_http.specs.declared.request.route.Kind.{Kind}
-use Rattle.reg_http.specs.declared.request.route.Kind.TheVariants.{Check, Deposit, List as Listing, Extract, Withdraw}
+use Rattle.reg_policy.specs.declared.subject.Verb.{Verb}
+use Rattle.reg_policy.specs.declared.subject.Verb.TheVariants.{Check, Deposit, List as Listing, Extract, Withdraw}
 
 -- the pattern up to the project
 abbrev pub front : List ℕ
@@ -48,13 +48,11 @@ with_pattern r = (r.pattern, r)
 abbrev pub table : RowsOf (RouteOf Page)
 table = with_pattern check_route ∷ with_pattern deposit_route ∷ with_pattern deposits_route ∷ []
 
--- a request of this kind has a body: those that are posted
-abbrev pub has_body : Kind → Bool
+-- a request of this verb has a body: those that are posted
+abbrev pub has_body : Verb → Bool
 has_body Check = true
 has_body Deposit = true
-has_body Listing = false
-has_body Extract = false
-has_body Withdraw = false
+has_body _ = false
 
 -- the route that a path has
 abbrev pub route_of : List ℕ → Option (RouteOf Page)
@@ -91,15 +89,11 @@ abbrev pub page_in : List ℕ → Result FoundAt Refusal
 page_in path = page_by path (route_of path)
 
 -- what a method asks of a page; methods are compared by their bytes
-abbrev pub method_of : Page → List ℕ → Option Kind
+abbrev pub method_of : Page → List ℕ → Option Verb
 method_of page method =
     if bytes_eq method (codes "POST") then page.post else (
     if bytes_eq method (codes "GET") then page.get else (
     if bytes_eq method (codes "DELETE") then page.delete else None))
 
-abbrev pub kind_by : Option Kind → Result Kind Refusal
-kind_by None = Err Method
-kind_by (Some kind) = Ok kind
-
-abbrev pub kind_in : Page → List ℕ → Result Kind Refusal
-kind_in page method = kind_by (method_of page method)
+abbrev pub verb_in : Page → List ℕ → Result Verb Refusal
+verb_in page method = ok_or (method_of page method) Method

@@ -13,7 +13,7 @@ use Rattle.reg_http.specs.Heads.{IsHead}
 use Rattle.reg_http.specs.Serving.{ServesAsked, ServesOne, ServesRequest, Written}
 use Rattle.reg_http.specs.Tallies.{tally_inner}
 use Rattle.reg_http.specs.Views.{asking_at}
-use Rattle.reg_http.specs.declared.request.ask.Ask.{Ask}
+use Rattle.reg_http.specs.declared.request.HeadAsk.{HeadAsk}
 use Rattle.reg_http.specs.declared.request.parts.Parts.{Parts}
 use Rattle.reg_http.specs.declared.tally.Tally.{Tally}
 use Rattle.reg_http.specs.declared.serve.Served.{Served}
@@ -32,7 +32,7 @@ module _ {K W : Type 0} {keep : KeepGhosts K} (writes : WriteGhosts W) where
       (writes.contents (tally_inner writer)) (writes.contents (tally_inner writer_after)) r
 
   -- what a head asks was served, and the reply was written to the writer; `all` is what came after the head
-  abbrev pub ServesAskedTo : Ask → ℤ → List ℕ → Desk K keep → Desk K keep
+  abbrev pub ServesAskedTo : HeadAsk → ℤ → List ℕ → Desk K keep → Desk K keep
       → Tally W → Tally W → Result Served IoFault → Type 0
   ServesAskedTo ask day all old new writer writer_after r =
       ServesAsked (AnsweredBy keep) (asking_at ask) day all old new
@@ -54,7 +54,7 @@ module _ {K W : Type 0} {keep : KeepGhosts K} (writes : WriteGhosts W) where
 
 module _ {K R W : Type 0} {keep : KeepGhosts K} (reads : ReadGhosts R) (writes : WriteGhosts W) where
   -- what a head asks was served, of what came early with it and what the reader still had, if contracts can name that
-  abbrev pub ServesAskedFrom : Ask → ℤ → List ℕ → Tally R → Desk K keep → Desk K keep
+  abbrev pub ServesAskedFrom : HeadAsk → ℤ → List ℕ → Tally R → Desk K keep → Desk K keep
       → Tally W → Tally W → Result Served IoFault → Type 0
   ServesAskedFrom ask day early reader old new writer writer_after r =
       IfSome (reads.remaining (tally_inner reader))

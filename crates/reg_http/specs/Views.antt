@@ -1,26 +1,25 @@
 -- What the code reads of a request, as the definitions have it.
-use Rattle.std.specs.Prelude.{◌≡◌, ℕ, ◌≤◌, ◌<◌, List, [], length, take, Option, Some, None, Result, Ok, Err, Bool, true}
+use Rattle.std.specs.Prelude.{◌≡◌, ℕ, ◌≤◌, ◌<◌, List, length, take, Option, Some, None, Result, Ok, Err, Bool, true}
 use Rattle.std.specs.Prelude.{false, ⊤, Vec}
 use Rattle.std.specs.Borrow.{Bor}
 use Rattle.std.specs.declared.alloc.Global.{Global}
 use Rattle.std.specs.declared.borrow.CowStr.{CowStr}
 use Rattle.std.specs.Cow.{cow_str_bytes}
 use Rattle.reg_policy.specs.declared.callers.Caller.{Caller}
+use Rattle.reg_request.specs.Asks.{sought_at}
 use Rattle.reg_http.specs.Asks.{Asking}
-use Rattle.reg_http.specs.Queries.{Sought, deposit, check, listing, extract, withdraw, groups_in}
 use Rattle.reg_http.specs.Routes.{FoundAt}
 use Rattle.reg_http.specs.declared.request.route.Found.{Found}
-use Rattle.reg_http.specs.declared.request.ask.Ask.{Ask}
-use Rattle.reg_http.specs.declared.request.query.Seeks.{Seeks}
-use Rattle.reg_http.specs.declared.request.query.Seeks.TheVariants as seeks
+use Rattle.reg_http.specs.declared.request.HeadAsk.{HeadAsk}
 use Rattle.reg_http.specs.declared.request.body.BodyFault.{BodyFault}
 use Rattle.reg_http.specs.declared.request.body.BodyFault.TheVariants as fault
 
 abbrev pub itself : {A : Type 0} → A → A
 itself a = a
 
-abbrev pub lent_caller : Bor Caller → Caller
-lent_caller c = c.now
+-- the caller, of one that is lent with its token
+abbrev pub first_lent : {A : Type 0} → Bor Caller × A → Caller
+first_lent p = p.0.now
 
 abbrev pub found_page : Found → FoundAt
 found_page f = record { page = f.page; project = f.project.now; number = f.number.now }
@@ -30,25 +29,8 @@ abbrev pub given_text : {Z : Type 0} → Option (CowStr Z) → Option (List ℕ)
 given_text None = None
 given_text (Some text) = Some (cow_str_bytes text)
 
--- the groups that such a text lists
-abbrev pub groups_at : {Z : Type 0} → Option (CowStr Z) → List (List ℕ)
-groups_at None = []
-groups_at (Some text) = groups_in (cow_str_bytes text)
-
-abbrev pub sought_at : Seeks → Sought
-sought_at (seeks.Deposit embargo) = deposit embargo
-sought_at seeks.Check = check
-sought_at seeks.List = listing
-sought_at (seeks.Extract number groups) = extract number (groups_at groups)
-sought_at (seeks.Withdraw number) = withdraw number
-
-abbrev pub asking_at : Ask → Asking
-asking_at a = record { caller = a.caller.now; project = a.project; sought = sought_at a.seeks; length = a.length }
-
--- the groups of an extract; other requests have none
-abbrev pub groups_sought : Seeks → List (List ℕ)
-groups_sought (seeks.Extract number groups) = groups_at groups
-groups_sought _ = []
+abbrev pub asking_at : HeadAsk → Asking
+asking_at a = record { caller = a.caller.now; project = a.project; sought = sought_at a.ask; length = a.length }
 
 -- what was read of a body of that length, where those bytes were to come: its bytes, or that they ended early
 abbrev pub ReadsBody : List ℕ → ℕ → Result (Vec ℕ Global) BodyFault → Type 0

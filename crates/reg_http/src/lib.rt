@@ -6,18 +6,14 @@
 
 pub mod laws;
 mod list;
+mod notes;
 mod refusal;
 mod reply;
 mod request;
 mod serve;
-mod summary;
 mod tally;
-mod text;
 
 pub use list::serve_list;
-pub use reply::answer::is_store_failed_reply;
-pub use request::number::number_of_deposit;
-pub use request::query::groups_listed;
-pub use serve::{IoFault, Served, serve_one};
-pub use summary::{Summary, summary_of};
+pub use notes::{Head, Notes};
+pub use serve::{IoFault, Served, serve_noted, serve_one};
 pub use tally::Tally;

@@ -1,9 +1,9 @@
 -- The test of each relation of a rule, and the decision of a list of rules.
-use Rattle.std.proofs.Common.{◌≡◌, ◌⊎◌, ℕ, zero, suc, List, [], ◌∷◌, Bool, ◌&&◌, is_none, Option, Some, None, ℤ, ◌≤ℤ◌, int_le, Decides, refl, ap, inl, inr, arith, negsuc, pos}
+use Rattle.std.proofs.Common.{◌≡◌, ◌⊎◌, All, ℕ, ◌<◌, zero, suc, List, [], ◌∷◌, Bool, ◌&&◌, is_none, Option, Some, None, ℤ, ◌≤ℤ◌, int_le, Decides, refl, ap, inl, inr, arith, negsuc, pos}
 use Rattle.std.proofs.lemmas.Bool.{false≢true, cases_Bool, leb-true, le-leb}
 use Rattle.std.proofs.lemmas.Int.{ints}
 use Rattle.std.proofs.lemmas.Bool.Decides.{Decides-and, Decides-like, Decides-or, not_from_Decides}
-use Rattle.std.proofs.lemmas.List.Elements.{All-cons, All-nil}
+use Rattle.std.proofs.lemmas.List.Elements.{All-cons, All-head, All-nil, All-tail}
 use Rattle.std.proofs.lemmas.Slice.Eq.{bytes_eq-Decides}
 use Rattle.std.specs.Bool.{beq}
 use Rattle.std.specs.Cmp.{booleans_Decides}
@@ -24,6 +24,7 @@ use Rattle.reg_policy.specs.Decision.{
   NotAfter,
   NotBefore,
   decision_of,
+  effect_of,
   has_entry,
   is_met,
   is_row_met,
@@ -33,7 +34,11 @@ use Rattle.reg_policy.specs.Decision.{
 use Rattle.reg_policy.specs.declared.period.Period.{Period}
 use Rattle.reg_policy.specs.declared.rule.WantedEntry.{WantedEntry}
 use Rattle.reg_policy.specs.declared.rule.Rule.{Rule}
+use Rattle.reg_policy.specs.Rules.{IsRisingFrom}
+use Rattle.reg_policy.specs.declared.rule.Effect.{Effect}
+use Rattle.reg_policy.specs.declared.rule.Effect.TheVariants as Effects
 use Rattle.reg_policy.specs.declared.subject.Decision.{Decision}
+use Rattle.reg_policy.specs.declared.subject.Decision.TheVariants.{Deny}
 use Rattle.reg_policy.specs.declared.subject.Verb.{Verb}
 
 -- a test of what is set decides what is said of it, where nothing set matches all
@@ -105,4 +110,29 @@ decided [] s = inr (All-nil (λ x. ¬ (Matches x s)), refl)
 decided (r ∷ rules) s = elim (cases_Bool (matches r s)) [
   | inl same ↦ inl ([], r, rules, refl, All-nil (λ x. ¬ (Matches x s)), (matches-Decides r s).0 same, rw same)
   | inr other ↦ rw other (decided_more r rules s (decision_of rules s) (not_from_Decides _ (matches-Decides r s) other) (decided rules s))
+]
+
+-- no rule that has a number above another is the denial 0
+not_zero : (effect : Effect) (n number : ℕ) → n < number → effect_of effect number ≡ Deny 0 → ⊥
+not_zero Effects.Permit n number above e = absurd cc
+not_zero Effects.Deny n number above e = let is : number ≡ 0 = cc in omega (arith, is, above)
+
+-- where the numbers rise, the denial 0 is that of no rule
+pub zero_is_none : (n : ℕ) (rules : List Rule) (s : Question) → IsRisingFrom n rules → decision_of rules s ≡ Deny 0
+    → All (λ x. ¬ (Matches x s)) rules
+zero_is_none n [] s rising e = All-nil (λ x. ¬ (Matches x s))
+zero_is_none n (r ∷ rules) s rising e = elim (cases_Bool (matches r s)) [
+  | inl same ↦ absurd (not_zero r.effect n r.number rising.0 (rw same at e))
+  | inr other ↦
+      All-cons (λ x. ¬ (Matches x s)) r rules (not_from_Decides _ (matches-Decides r s) other)
+      (zero_is_none r.number rules s rising.1 (rw other at e))
+]
+
+-- where no rule matches, the decision is the denial 0
+pub none_is_zero : (rules : List Rule) (s : Question) → All (λ x. ¬ (Matches x s)) rules
+    → decision_of rules s ≡ Deny 0
+none_is_zero [] s none = refl
+none_is_zero (r ∷ rules) s none = elim (cases_Bool (matches r s)) [
+  | inl same ↦ absurd (All-head (λ x. ¬ (Matches x s)) r rules none ((matches-Decides r s).0 same))
+  | inr other ↦ rw other (none_is_zero rules s (All-tail (λ x. ¬ (Matches x s)) r rules none))
 ]

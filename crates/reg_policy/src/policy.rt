@@ -1,6 +1,6 @@
 //! A policy: a list of rules, of which the first that matches decides.
-ghost use Rattle.std.specs.Prelude.{◌≡◌, ◌↔◌, List, IsTrue};
-ghost use Rattle.reg_policy.specs.Decision.{decision_of};
+ghost use Rattle.std.specs.Prelude.{◌≡◌, ◌↔◌, List, All, IsTrue};
+ghost use Rattle.reg_policy.specs.Decision.{Matches, decision_of};
 ghost use Rattle.reg_policy.specs.Rules.{IsRisingFrom, ReadsPolicy, policy_error};
 ghost use Rattle.reg_policy.specs.declared.rule.Rule.{Rule as RuleValue};
 
@@ -44,7 +44,7 @@ impl From<ReadError> for PolicyError {
     }
 }
 
-/// The rules of a policy, in the order of the text.
+/// The rules of a policy, in the order of the text. Their numbers rise from 1.
 pub struct Policy {
     rules: Vec<Rule>,
 }
@@ -60,6 +60,8 @@ impl Model for Policy {
     ghost Value = { List RuleValue };
 
     ghost view = { λ p. p.rules.items };
+
+    ghost invariant = { λ p. IsRisingFrom 0 p.rules.items };
 }
 
 impl Policy {
@@ -74,17 +76,25 @@ impl Policy {
         Ok(Policy { rules })
     }
 
-    /// What the first rule that matches says.
+    /// What the first rule that matches says. The denial 0 means that none does.
     pub fn decide(&self, subject: &Subject) -> Decision
-        ensures { result ≡ decision_of self.now subject.now }
+        ensures decides { result ≡ decision_of self.now subject.now }
+        ensures no_match { (result ≡ Decision.Deny 0) ↔ All (λ r. ¬ (Matches r subject.now)) self.now }
     {
-        for rule in &self.rules {
-            if rule.matches(subject) {
-                return rule.decision();
-            }
-        }
-        Decision::Deny(0)
+        first_match(&self.rules, subject)
     }
+}
+
+/// What the first of the rules that matches says.
+fn first_match(rules: &[Rule], subject: &Subject) -> Decision
+    ensures { result ≡ decision_of rules.now subject.now }
+{
+    for rule in rules {
+        if rule.matches(subject) {
+            return rule.decision();
+        }
+    }
+    Decision::Deny(0)
 }
 
 /// Whether the numbers of the rules rise strictly.

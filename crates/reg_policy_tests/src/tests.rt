@@ -1,4 +1,5 @@
 //! The worked examples: what no clause says. Without memory no answer is the expected one.
+mod caller;
 mod callers;
 mod decisions;
 mod nested;

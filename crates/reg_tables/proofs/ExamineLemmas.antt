@@ -35,9 +35,10 @@ use Rattle.reg_tables.specs.Tables.{HasTables, format_number, schema_of}
 use Rattle.reg_tables.specs.Register.{HoldsSent, deposit_rows, integer_in, meta_columns}
 use Rattle.reg_tables.specs.RegisterLaws.{rows-length}
 use Rattle.reg_tables.specs.Digests.{AreBelow, HasEqual, HasNoEqual, HoldsDigests, IsFirst, IsNew, is_among, numbers_under, own_digest}
-use Rattle.reg_tables.specs.Heads.{IsDigestedAt, head_of}
+use Rattle.reg_tables.specs.Heads.{IsDigestedAt, IsDigestedFrom, IsSizeOf}
+use Rattle.reg_tables.specs.declared.memory.room.Size.{Size}
 use Rattle.reg_tables.specs.Methods.{HoldsLines, HoldsSteps}
-use Rattle.reg_tables.proofs.MethodsLaws.{same_deposit}
+use Rattle.reg_tables.proofs.MethodsLaws.{same_deposit, same_file}
 use Rattle.reg_tables.proofs.RepeatsLemmas.{false_if, same_digest}
 use Rattle.reg_tables.specs.declared.error.AdoptError.{AdoptError}
 use Rattle.reg_tables.specs.declared.error.AdoptError.TheVariants.{NotRegister, Version, NoMemory}
@@ -63,6 +64,9 @@ tests_both is A B one two = record { yes = λ e. pair (one.yes refl) (two.yes e)
     pair : ∥ A ∥₁ → ∥ B ∥₁ → ∥ (A × B) ∥₁
     pair a b = ∥∥₁_elim a (Prim.hlevel props) (λ x. ∥∥₁_map b (λ y. (x, y)))
 
+pub tests_then : (is : Bool) (A : Type 0) (B : Database → Type 0) (old mid : Database) → mid ≡ old → Tests true A → Tests is (B mid) → Tests is (A × B old)
+tests_then is A B old mid same one two = tests_both is A (B old) one (subst (λ (db : Database). Tests is (B db)) same two)
+
 pub tests_as : (is : Bool) (A B : Type 0) → (A → B) → (B → A) → Tests is A → Tests is B
 tests_as is A B there back test = record { yes = λ e. ∥∥₁_map (test.yes e) there; no = λ e b. test.no e (back b) }
 
@@ -73,8 +77,15 @@ counts_by db rows None all are few some none = λ list low holds. none refl (len
 
 -- a second test, after which the tables are as they were
 pub tests_later : (r : Result Bool KeepError) (A : Type 0) (B : Database → Type 0) (old mid : Database) → mid ≡ old → Tests true A → IfOk r (λ is. Tests is (B mid)) → IfOk r (λ is. Tests is (A × B old))
-tests_later (Ok is) A B old mid same one two = tests_both is A (B old) one (subst (λ (db : Database). Tests is (B db)) same two)
+tests_later (Ok is) A B old mid same one two = tests_then is A B old mid same one two
 tests_later (Err e) A B old mid same one two = tt
+
+-- the size of a file is that of each file of its deposit
+pub size_of_file : (r : Result (Option Size) KeepError) (dictionary : Entries) (d : Sent) (file : CheckedFile) → IsFileOf dictionary d file
+    → IfOk r (λ found. IfSome found (λ size. size.rows ≡ file.graph.rows)) → IfOk r (λ found. IfSome found (IsSizeOf dictionary d))
+size_of_file (Err e) dictionary d file its same = tt
+size_of_file (Ok None) dictionary d file its same = tt
+size_of_file (Ok (Some size)) dictionary d file its same = λ other of. same ∙ ap (λ (f : CheckedFile). f.graph.rows) (same_file dictionary d file other its of)
 
 -- the lines and steps of a file, by those that are its
 pub file_tests : (r : Result Bool KeepError) (db : Database) (n : ℕ) (lines own : List KeptRow) (steps graph : List (ℕ × ℕ)) → lines ≡ own → steps ≡ graph
@@ -83,10 +94,10 @@ file_tests r db n lines own steps graph lines_are steps_are test =
     subst₂ (λ (all : List KeptRow) (of : List (ℕ × ℕ)). IfOk r (λ is. Tests is (HoldsLines db n all × HoldsSteps db n of))) lines_are steps_are test
 
 -- a deposit, by the lines and steps of its file
-pub body_tests : (r : Result Bool KeepError) (db : Database) (dictionary : Entries) (n : ℕ) (d : Sent) (file : CheckedFile) → IsFileOf dictionary d file
-    → IfOk r (λ is. Tests is (HoldsLines db n (kept_rows file.groups) × HoldsSteps db n file.graph.steps)) → IfOk r (λ is. Tests is (HoldsBody db dictionary n d))
+pub body_tests : (r : Result (Option Size) KeepError) (db : Database) (dictionary : Entries) (n : ℕ) (d : Sent) (file : CheckedFile) → IsFileOf dictionary d file
+    → IfOk r (λ found. Tests (is_some found) (HoldsLines db n (kept_rows file.groups) × HoldsSteps db n file.graph.steps)) → IfOk r (λ found. Tests (is_some found) (HoldsBody db dictionary n d))
 body_tests (Err e) db dictionary n d file its test = tt
-body_tests (Ok is) db dictionary n d file its test = tests_as is _ (HoldsBody db dictionary n d) (λ held. record { file = file; its = its; lines = held.0; steps = held.1 }) back test
+body_tests (Ok found) db dictionary n d file its test = tests_as (is_some found) _ (HoldsBody db dictionary n d) (λ held. record { file = file; its = its; lines = held.0; steps = held.1 }) back test
   where
     back : HoldsBody db dictionary n d → HoldsLines db n (kept_rows file.groups) × HoldsSteps db n file.graph.steps
     back held =
@@ -125,15 +136,15 @@ whole_tests (Ok one) db mid dictionary n d rows digests same found read named be
 pub only_shown : (db : Database) (dictionary : Entries) (n : ℕ) (rows : List Row) → IsPermutation rows (filter (has_number n) (deposit_table db.trees)) → (w : IsWhole db dictionary n) → rows ≡ given_deposit n w.deposit ∷ []
 only_shown db dictionary n rows found w = one_permutation (given_deposit n w.deposit) rows (IsPermutation-sym _ _ (subst (λ all. IsPermutation rows all) w.row found))
 
--- so the head and the digest of what is shown are those of the deposit
-pub head_shown : (r : Result (Option DigestedHead) KeepError) (db : Database) (n : ℕ) (kept : Sent) (rows : List Row) → IsPermutation rows (filter (has_number n) (deposit_table db.trees)) → rows ≡ given_deposit n kept ∷ []
-    → IfOk r (λ found. IfSome found (λ one. (one.head ≡ head_of kept) × (one.digest ≡ own_digest kept))) → IfOk r (λ found. IfSome found (IsDigestedAt db n))
-head_shown (Err e) db n kept rows found read its = tt
-head_shown (Ok None) db n kept rows found read its = tt
-head_shown (Ok (Some one)) db n kept rows found read its = λ d row.
+-- so what is known and the digest are those of the deposit
+pub head_shown : (r : Result (Option DigestedHead) KeepError) (db : Database) (dictionary : Entries) (n : ℕ) (kept : Sent) (rows : List Row) → IsPermutation rows (filter (has_number n) (deposit_table db.trees)) → rows ≡ given_deposit n kept ∷ []
+    → IfOk r (λ found. IfSome found (IsDigestedFrom dictionary kept)) → IfOk r (λ found. IfSome found (IsDigestedAt db dictionary n))
+head_shown (Err e) db dictionary n kept rows found read its = tt
+head_shown (Ok None) db dictionary n kept rows found read its = tt
+head_shown (Ok (Some one)) db dictionary n kept rows found read its = λ d row.
     (let alone : rows ≡ given_deposit n d ∷ [] = one_permutation (given_deposit n d) rows (IsPermutation-sym _ _ (subst (λ all. IsPermutation rows all) row found)) in
     let same : kept ≡ d = same_deposit n kept d rows read alone in
-    (its.0 ∙ ap head_of same, its.1 ∙ ap own_digest same))
+    subst (λ (x : Sent). IsDigestedFrom dictionary x one) same its)
 
 -- what is found under the digest shows whether a deposit is new
 pub new_tests : (db : Database) (numbers : List ℕ) (d : Sent) → HasNoEqual db numbers d.firm d.project d.bytes → Tests true (IsNew db numbers d)
@@ -147,6 +158,12 @@ tests_true {is} {P} e test = subst (λ (b : Bool). Tests b P) e test
 
 pub tests_false : {is : Bool} {P : Type 0} → is ≡ false → Tests is P → Tests false P
 tests_false {is} {P} e test = subst (λ (b : Bool). Tests b P) e test
+
+pub tests_some : {X : Type 0} {found : Option X} {x : X} {P : Type 0} → found ≡ Some x → Tests (is_some found) P → Tests true P
+tests_some {X} {found} {x} {P} e test = subst (λ (o : Option X). Tests (is_some o) P) e test
+
+pub tests_empty : {X : Type 0} {found : Option X} {P : Type 0} → found ≡ None → Tests (is_some found) P → Tests false P
+tests_empty {X} {found} {P} e test = subst (λ (o : Option X). Tests (is_some o) P) e test
 
 pub tests_none : (P : Type 0) → (P → ⊥) → Tests false P
 tests_none P none = record { yes = λ e. absurd cc; no = λ e. none }

@@ -1,35 +1,43 @@
--- The heads of a register's deposits, as they are read, grow and are looked up.
-use Rattle.std.proofs.Common.{◌≡◌, ℕ, zero, suc, ◌+◌, ◌-◌, ◌<◌, List, [], ◌∷◌, ◌++◌, map, take, length, Some, slice_get, sym, ap, subst, ◌∙◌, arith}
+-- What is known of a register's deposits, as it is read and grows.
+use Rattle.std.proofs.Common.{◌≡◌, ◌⊎◌, inl, inr, ℕ, zero, suc, ◌+◌, ◌-◌, List, [], ◌∷◌, ◌++◌, length, Some, slice_get, refl, sym, ap, subst, ◌∙◌, arith}
+use Rattle.std.proofs.Math.Logic.{∥∥₁_elim}
+use Rattle.std.proofs.Props.{props}
 use Rattle.std.specs.List.Sorted.{IsPermutation}
-use Rattle.std.proofs.lemmas.List.{map-append}
 use Rattle.sqlite.specs.Effect.{Database}
-use Rattle.reg_store.specs.declared.keep.KeptHead.{KeptHead}
+use Rattle.ags_dict.specs.Entries.{Entries}
 use Rattle.reg_store.specs.Sent.{Sent}
+use Rattle.reg_tables.specs.declared.memory.Known.{Known}
 use Rattle.reg_tables.specs.Rows.{deposit_table}
 use Rattle.reg_tables.specs.Register.{deposit_rows}
 use Rattle.reg_tables.specs.Digests.{IsRowOf}
-use Rattle.reg_tables.specs.Heads.{AreHeads, head_of}
-use Rattle.reg_tables.proofs.MethodsLaws.{slice_get_in}
+use Rattle.reg_tables.specs.Heads.{AreNew, HoldsKnown, IsNewOf}
 use Rattle.reg_tables.proofs.ShowsLaws.{row_of_number}
 
--- one deposit more, one head more
-pub heads_push : (heads : List KeptHead) (list more : List Sent) (d : Sent) → AreHeads heads list → more ≡ list ++ d ∷ [] → AreHeads (heads ++ head_of d ∷ []) more
-heads_push heads list more d are e = ap (λ all. all ++ head_of d ∷ []) are ∙ sym (map-append head_of list (d ∷ [])) ∙ ap (map head_of) (sym e)
+-- what is in a list after a push was in it, or is what was pushed
+in_pushed : {X : Type 0} (xs : List X) (y : X) (k : ℕ) (x : X) → slice_get (xs ++ y ∷ []) k ≡ Some x → (slice_get xs k ≡ Some x) ⊎ ((k ≡ length xs) × (x ≡ y))
+in_pushed [] y zero x at = inr (refl, cc)
+in_pushed [] y (suc k) x at = absurd cc
+in_pushed (z ∷ xs) y zero x at = inl at
+in_pushed (z ∷ xs) y (suc k) x at = elim (in_pushed xs y k x at) [
+  | inl there ↦ inl there
+  | inr last ↦ inr (ap suc last.0, last.1)
+]
 
--- ---- they are read as a register is examined
+-- what is known of the first deposits, and of the next
+pub known_read : (db : Database) (dictionary : Entries) (known : List Known) (one : Known) (at : ℕ) → length known ≡ at → HoldsKnown db dictionary known → ((d : Sent) → IsRowOf db (at + 1) d → IsNewOf dictionary d one) → HoldsKnown db dictionary (known ++ one ∷ [])
+known_read db dictionary known one at long held is k x here d row = elim (in_pushed known one k x here) [
+  | inl there ↦ held k x there d row
+  | inr last ↦ subst (IsNewOf dictionary d) (sym last.1) (is d (subst (λ (m : ℕ). IsRowOf db (m + 1) d) (last.0 ∙ long) row))
+]
 
-taken : {X : Type 0} (xs : List X) (k : ℕ) (x : X) → slice_get xs k ≡ Some x → take (suc k) xs ≡ take k xs ++ x ∷ []
-taken [] k x at = absurd cc
-taken (y ∷ xs) zero x at = let same : y ≡ x = cc in ap (λ z. z ∷ []) same
-taken (y ∷ xs) (suc k) x at = ap (λ all. y ∷ all) (taken xs k x at)
-
--- the heads of the first deposits, and that of the next
-pub heads_read : (db : Database) (heads : List KeptHead) (head : KeptHead) (k : ℕ) (list : List Sent) → AreHeads heads (take k list) → ((d : Sent) → IsRowOf db (k + 1) d → head ≡ head_of d) → IsPermutation (deposit_rows 1 list) (deposit_table db.trees) → k < length list
-    → AreHeads (heads ++ head ∷ []) (take (k + 1) list)
-heads_read db heads head k list are is there low =
-    let found = slice_get_in list k low in
+-- what is known of the deposits in the tables is so of the list that they hold
+pub new_held : (db : Database) (dictionary : Entries) (known : List Known) (list : List Sent) → IsPermutation (deposit_rows 1 list) (deposit_table db.trees) → HoldsKnown db dictionary known → AreNew dictionary known list
+new_held db dictionary known list there held k d one at here =
     let e : (k + 1) - 1 ≡ k = omega arith in
-    let its : head ≡ head_of found.0 = is found.0 (row_of_number (k + 1) list (deposit_table db.trees) found.0 (omega arith) there (ap (slice_get list) e ∙ found.1)) in
-    let n : suc k ≡ k + 1 = omega arith in
-    let more : take (k + 1) list ≡ take k list ++ found.0 ∷ [] = subst (λ m. take m list ≡ take k list ++ found.0 ∷ []) n (taken list k found.0 found.1) in
-    ap (λ h. heads ++ h ∷ []) its ∙ heads_push heads (take k list) (take (k + 1) list) found.0 are more
+    held k one here d (row_of_number (k + 1) list (deposit_table db.trees) d (omega arith) there (ap (slice_get list) e ∙ at))
+
+pub new_of_some : (dictionary : Entries) (known : List Known) (list : List Sent) → ∥ AreNew dictionary known list ∥₁ → AreNew dictionary known list
+new_of_some dictionary known list some k d one at here = record {
+  known = ∥∥₁_elim some (Prim.hlevel props) (λ (are : AreNew dictionary known list). (are k d one at here).known);
+  size = λ file its. ∥∥₁_elim some (Prim.hlevel props) (λ (are : AreNew dictionary known list). (are k d one at here).size file its);
+}

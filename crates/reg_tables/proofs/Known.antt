@@ -1,15 +1,18 @@
--- What is known of deposits, made of heads and marks, and what of it is a deposit.
+-- What is known of deposits with marks, and what of it is a deposit.
 use Rattle.std.proofs.Common.{Bool, List, [], ◌∷◌}
-use Rattle.reg_store.specs.declared.keep.KeptHead.{KeptHead}
 use Rattle.reg_store.specs.Sent.{Sent}
 use Rattle.reg_tables.specs.declared.memory.Known.{Known}
-use Rattle.reg_tables.specs.Memory.{new_known, with_mark}
+use Rattle.reg_tables.specs.Memory.{with_mark}
 
--- of deposits of these heads and marks nothing was read
-abbrev pub marked_known : List KeptHead → List Bool → List Known
-marked_known [] marks = []
-marked_known (head ∷ heads) [] = []
-marked_known (head ∷ heads) (mark ∷ marks) = new_known (with_mark head mark) ∷ marked_known heads marks
+-- what is known of a deposit, with the mark
+abbrev pub marked_as : Known → Bool → Known
+marked_as one mark = record { head = with_mark one.head mark; size = one.size; project = one.project; alone = one.alone }
+
+-- what is known of deposits, of which the first have these marks
+abbrev pub with_marks : List Bool → List Known → List Known
+with_marks [] known = known
+with_marks (mark ∷ marks) [] = []
+with_marks (mark ∷ marks) (one ∷ known) = marked_as one mark ∷ with_marks marks known
 
 -- a deposit of the head that is known, without bytes
 abbrev pub bare_of : Known → Sent

@@ -5,7 +5,6 @@ pub mod StoredText
 pub mod AdoptsLaws
 pub mod AnswersLaws
 pub mod CreatesLaws
-pub mod DataCountLaws
 pub mod ForeignLaws
 pub mod InsertsLaws
 pub mod KeepLaws

@@ -1,5 +1,5 @@
 -- What is known of the deposits, as it is looked up, noted and grows with the list.
-use Rattle.std.proofs.Common.{zero, suc, ◌≡◌, ℕ, ◌+◌, ◌-◌, ◌<◌, ◌≤◌, Bool, true, false, List, [], ◌∷◌, ◌++◌, get_or, length, map, take, if◌then◌else◌, Some, slice_get, refl, sym, ap, subst, subst₂, ◌∙◌, arith}
+use Rattle.std.proofs.Common.{zero, suc, ◌≡◌, ℕ, ◌+◌, ◌-◌, ◌<◌, ◌≤◌, Bool, true, false, List, [], ◌∷◌, ◌++◌, get_or, length, map, take, if◌then◌else◌, None, Some, slice_get, refl, sym, ap, subst, subst₂, ◌∙◌, arith}
 use Rattle.std.proofs.Math.ListN.{set}
 use Rattle.std.proofs.lemmas.List.{length_push, take_all}
 use Rattle.std.proofs.lemmas.Option.{slice_get_read}
@@ -9,10 +9,7 @@ use Rattle.std.specs.Str.{bytes_eq}
 use Rattle.sqlite.specs.Effect.{Database}
 use Rattle.sqlite.specs.State.{State, HasCleanDisk}
 use Rattle.ags_dict.specs.Entries.{Entries}
-use Rattle.ags_check.specs.Findings.{CheckedFile}
 use Rattle.reg_store.specs.declared.keep.KeptHead.{KeptHead}
-use Rattle.reg_store.specs.Keep.{OfDeposit}
-use Rattle.reg_store.specs.Reading.{HasGraph, HasKeptRows}
 use Rattle.reg_store.specs.Sent.{Sent, numbers_from}
 use Rattle.reg_store.specs.Deposit.{Deposit, marked, sents, sents_marked, unmarked}
 use Rattle.reg_tables.specs.declared.memory.Coming.{Coming}
@@ -20,13 +17,14 @@ use Rattle.reg_tables.specs.declared.memory.Known.{Known}
 use Rattle.reg_tables.specs.declared.memory.Memory.{Memory}
 use Rattle.reg_tables.specs.declared.memory.digests.Digests.{Digests}
 use Rattle.reg_tables.specs.Digests.{AddsNumber, AreBelow, AreDigested, PutsNumbers, numbers_under, own_digest}
-use Rattle.reg_tables.specs.Heads.{head_of}
+use Rattle.reg_tables.specs.Heads.{AreNew, IsNewOf, IsSizeOf, head_of, new_known}
+use Rattle.reg_tables.specs.declared.memory.room.Size.{Size}
 use Rattle.sqlite_catalog.proofs.ListFacts.{zip_push}
 use Rattle.reg_tables.proofs.MethodsLaws.{zip_at}
 use Rattle.reg_tables.proofs.PushesLaws.{pushed_get}
 use Rattle.reg_tables.proofs.KeepLaws.{keeps_quiet}
-use Rattle.reg_tables.specs.Memory.{Agrees, AreKnown, IsComing, IsKnown, IsNumberOf, Remembers, new_known, with_mark}
-use Rattle.reg_tables.proofs.Known.{bare_of, marked_known}
+use Rattle.reg_tables.specs.Memory.{Agrees, AreKnown, IsComing, IsKnown, Remembers, with_mark}
+use Rattle.reg_tables.proofs.Known.{bare_of, marked_as, with_marks}
 use Rattle.reg_tables.specs.Quiet.{IsStill}
 use Rattle.reg_tables.proofs.QuietLaws.{clean_before}
 use Rattle.reg_tables.specs.Register.{KeepsRegister, deposits_in, marks_of}
@@ -60,32 +58,49 @@ pub known_sent : (dictionary : Entries) (list : List Deposit) (known : List Know
 known_sent dictionary list known k one sent are low is there =
     let d = deposit_there list k sent there in (d.0, d.2, known_here dictionary list known k one d.0 are low is d.1)
 
--- of deposits of which nothing was read
-new_zipped : (dictionary : Entries) (list : List Deposit) → AllZip (IsKnown dictionary) list (marked_known (map head_of (sents list)) (marks_of list))
-new_zipped dictionary [] = tt
-new_zipped dictionary (d ∷ list) = (record { head = refl; project = λ row none. absurd cc; alone = λ row none. absurd cc }, new_zipped dictionary list)
+-- of a deposit of which nothing was read
+new_is_known : (dictionary : Entries) (d : Sent) (size : Size) → IsSizeOf dictionary d size → IsKnown dictionary (unmarked d) (new_known (head_of d) size)
+new_is_known dictionary d size its = record { head = refl; size = its; project = λ row none. absurd cc; alone = λ row none. absurd cc }
 
-pub long_known : (heads : List KeptHead) (marks : List Bool) → length marks ≡ length heads → length (marked_known heads marks) ≡ length heads
-long_known [] marks long = refl
-long_known (h ∷ heads) [] long = absurd (omega (arith, long))
-long_known (h ∷ heads) (m ∷ marks) long = ap suc (long_known heads marks (omega (arith, long)))
+marked_is_known : (dictionary : Entries) (d : Deposit) (one : Known) → IsNewOf dictionary d.sent one → IsKnown dictionary d (marked_as one d.withdrawn)
+marked_is_known dictionary d one new = record {
+  head = ap (λ (x : Known). with_mark x.head d.withdrawn) new.known;
+  size = new.size;
+  project = λ row is. absurd (let none : None ≡ Some row = sym (ap (λ (x : Known). x.project) new.known) ∙ is in cc);
+  alone = λ row is. absurd (let none : None ≡ Some row = sym (ap (λ (x : Known). x.alone) new.known) ∙ is in cc);
+}
 
--- all heads and marks have come
-pub known_all : (heads : List KeptHead) (marks : List Bool) (known : List Known) (at : ℕ) → length heads ≤ at → length marks ≡ length heads → known ≡ marked_known (take at heads) (take at marks) → known ≡ marked_known heads marks
-known_all heads marks known at end long are =
-    let ended : length marks ≤ at = omega (arith, end, long) in
-    are ∙ ap (λ (first : List KeptHead). marked_known first (take at marks)) (take_all at heads end) ∙ ap (marked_known heads) (take_all at marks ended)
+-- what is found of deposits agrees with them once it has their marks
+new_zip : (dictionary : Entries) (list : List Sent) (known : List Known) → length known ≡ length list → AreNew dictionary known list → AllZip (IsNewOf dictionary) list known
+new_zip dictionary [] [] long are = tt
+new_zip dictionary (d ∷ list) (one ∷ known) long are = (are 0 d one refl refl, new_zip dictionary list known (omega (arith, long)) (λ k e other there here. are (suc k) e other there here))
+new_zip dictionary list known long are = absurd (omega (arith, long))
 
--- one head and one mark more
-pub marked_more : (heads : List KeptHead) (marks : List Bool) (k : ℕ) (head : KeptHead) (mark : Bool) → slice_get heads k ≡ Some head → slice_get marks k ≡ Some mark
-    → marked_known (take (suc k) heads) (take (suc k) marks) ≡ marked_known (take k heads) (take k marks) ++ new_known (with_mark head mark) ∷ []
-marked_more [] marks k head mark here there = absurd cc
-marked_more (h ∷ heads) [] k head mark here there = absurd cc
-marked_more (h ∷ heads) (m ∷ marks) zero head mark here there =
-    let p : h ≡ head = cc in
-    let q : m ≡ mark = cc in
+marked_zip : (dictionary : Entries) (list : List Deposit) (known : List Known) → AllZip (IsNewOf dictionary) (sents list) known → AllZip (IsKnown dictionary) list (with_marks (marks_of list) known)
+marked_zip dictionary [] [] all = tt
+marked_zip dictionary (d ∷ list) (one ∷ known) all = (marked_is_known dictionary d one all.0, marked_zip dictionary list known all.1)
+marked_zip dictionary list known all = absurd all
+
+pub known_marked : (dictionary : Entries) (list : List Deposit) (known : List Known) → length known ≡ length list → AreNew dictionary known (sents list) → AreKnown dictionary list (with_marks (marks_of list) known)
+known_marked dictionary list known long are =
+    unzipped dictionary list _ (marked_zip dictionary list known (new_zip dictionary (sents list) known (long ∙ sym (long_sents list)) are))
+
+pub marks_long : (marks : List Bool) (known : List Known) → length (with_marks marks known) ≡ length known
+marks_long [] known = refl
+marks_long (m ∷ marks) [] = refl
+marks_long (m ∷ marks) (one ∷ known) = ap suc (marks_long marks known)
+
+-- one mark more
+pub marks_more : (marks : List Bool) (known : List Known) (k : ℕ) (mark : Bool) (one : Known) → slice_get marks k ≡ Some mark → slice_get (with_marks (take k marks) known) k ≡ Some one
+    → set (with_marks (take k marks) known) k (marked_as one mark) ≡ with_marks (take (suc k) marks) known
+marks_more [] known k mark one at here = absurd cc
+marks_more (m ∷ marks) [] zero mark one at here = absurd cc
+marks_more (m ∷ marks) [] (suc k) mark one at here = absurd cc
+marks_more (m ∷ marks) (x ∷ known) zero mark one at here =
+    let p : m ≡ mark = cc in
+    let q : x ≡ one = cc in
     rw (p, q) refl
-marked_more (h ∷ heads) (m ∷ marks) (suc k) head mark here there = ap (λ all. new_known (with_mark h m) ∷ all) (marked_more heads marks k head mark here there)
+marks_more (m ∷ marks) (x ∷ known) (suc k) mark one at here = ap (λ all. marked_as x m ∷ all) (marks_more marks known k mark one at here)
 
 -- something else is known of one deposit
 set_zipped : (dictionary : Entries) (list : List Deposit) (known : List Known) (k : ℕ) (one : Known) → AllZip (IsKnown dictionary) list known → ((d : Deposit) → slice_get list k ≡ Some d → IsKnown dictionary d one) → AllZip (IsKnown dictionary) list (set known k one)
@@ -108,9 +123,6 @@ numbers_zipped n project dictionary (d ∷ list) (x ∷ known) all =
     go true h = ap (λ all. n ∷ all) h
     go false h = h
 
-pub known_new : (dictionary : Entries) (list : List Deposit) → AreKnown dictionary list (marked_known (map head_of (sents list)) (marks_of list))
-known_new dictionary list = unzipped dictionary list _ (new_zipped dictionary list)
-
 pub known_set : (dictionary : Entries) (list : List Deposit) (known : List Known) (k : ℕ) (one : Known) → AreKnown dictionary list known → ((d : Deposit) → slice_get list k ≡ Some d → IsKnown dictionary d one) → AreKnown dictionary list (set known k one)
 known_set dictionary list known k one are its = unzipped dictionary list _ (set_zipped dictionary list known k one (zipped dictionary list known are) its)
 
@@ -119,28 +131,18 @@ numbers_held n project dictionary list known are = numbers_zipped n project dict
 
 -- ---- one deposit more
 
-still_of : (dictionary : Entries) (list : List Deposit) (d : Sent) (n : ℕ) (Holds : CheckedFile → Type 0) → IsNumberOf n list × OfDeposit dictionary (sents list) n Holds
-    → IsNumberOf n (list ++ unmarked d ∷ []) × OfDeposit dictionary (sents (list ++ unmarked d ∷ [])) n Holds
-still_of dictionary list d n Holds it =
-    let longer = length_push list (unmarked d) in
-    let low : n - 1 < length (sents list) = omega (arith, it.0.0, it.0.1, long_sents list) in
-    let same = sym (pushed_get (sents list) d (n - 1) (λ e. absurd (omega (arith, low, e)))) in
-    ((it.0.0, omega (arith, it.0.1, longer)), λ e file at of. it.1 e file (same ∙ ap (λ (all : List Sent). slice_get all (n - 1)) (sym (sents_push list d)) ∙ at) of)
-
 pub agrees_push : (old new : Memory) (coming : Coming) (dictionary : Entries) (list : List Deposit) (d : Sent) → new.known.items ≡ old.known.items ++ coming.known ∷ [] → PutsNumbers old.digests new.digests coming.digest coming.numbers.items
-    → new.rows ≡ old.rows → new.graph ≡ old.graph → IsComing old d coming → Agrees old dictionary list → Agrees new dictionary (list ++ unmarked d ∷ [])
-agrees_push old new coming dictionary list d known puts rows graph its agrees =
+    → IsComing old d coming → IsSizeOf dictionary d coming.known.size → Agrees old dictionary list → Agrees new dictionary (list ++ unmarked d ∷ [])
+agrees_push old new coming dictionary list d known puts its sized agrees =
     let number : length old.known.items + 1 ≡ length list + 1 = ap (λ n. n + 1) agrees.known.long in
     let numbers = its.numbers ∙ ap (λ n. numbers_under old.digests (own_digest d) ++ n ∷ []) number ∙ ap (λ (x : List ℕ). numbers_under old.digests x ++ (length list + 1) ∷ []) (sym its.digest) in
     let adds : AddsNumber old.digests new.digests coming.digest (length list + 1) = subst (PutsNumbers old.digests new.digests coming.digest) numbers puts in
     let next = list ++ unmarked d ∷ [] in
     record {
       known = subst (AreKnown dictionary next) (sym (known ∙ ap (λ one. old.known.items ++ one ∷ []) its.known))
-          (unzipped dictionary next _ (zip_push (IsKnown dictionary) list old.known.items (unmarked d) (new_known (head_of d)) (zipped dictionary list old.known.items agrees.known) (new_zipped dictionary (unmarked d ∷ [])).0));
+          (unzipped dictionary next _ (zip_push (IsKnown dictionary) list old.known.items (unmarked d) (new_known (head_of d) coming.known.size) (zipped dictionary list old.known.items agrees.known) (new_is_known dictionary d coming.known.size sized)));
       digests = digested_push old.digests new.digests coming.digest (sents list) (sents next) d (length list + 1) agrees.digests adds its.digest (ap (λ n. n + 1) (sym (long_sents list))) (sents_push list d);
       below = subst (λ n. AreBelow new.digests (n + 1)) (sym (length_push list (unmarked d))) (below_more old.digests new.digests coming.digest (length list + 1) (omega arith) adds agrees.below);
-      rows = λ held at. still_of dictionary list d held.number (HasKeptRows held.rows) (agrees.rows held (sym rows ∙ at));
-      graph = λ held at. still_of dictionary list d held.number (HasGraph held.graph) (agrees.graph held (sym graph ∙ at));
     }
 
 -- where room is made, what is known stays
@@ -151,35 +153,25 @@ agrees_same memory digests known dictionary list is same agrees =
 
 -- ---- one mark more
 
--- what is known of a deposit, with the mark
-abbrev pub marked_one : Known → Known
-marked_one one = record { head = with_mark one.head true; project = one.project; alone = one.alone }
-
-mark_zipped : (dictionary : Entries) (list : List Deposit) (known : List Known) (k : ℕ) (one : Known) → slice_get known k ≡ Some one → AllZip (IsKnown dictionary) list known → AllZip (IsKnown dictionary) (marked (suc k) list) (set known k (marked_one one))
+mark_zipped : (dictionary : Entries) (list : List Deposit) (known : List Known) (k : ℕ) (one : Known) → slice_get known k ≡ Some one → AllZip (IsKnown dictionary) list known → AllZip (IsKnown dictionary) (marked (suc k) list) (set known k (marked_as one true))
 mark_zipped dictionary [] [] k one at all = tt
 mark_zipped dictionary (e ∷ list) (x ∷ known) zero one at all =
     let same : x ≡ one = cc in
     let was : IsKnown dictionary e one = subst (IsKnown dictionary e) same all.0 in
-    (record { head = ap (λ (h : KeptHead). with_mark h true) was.head; project = was.project; alone = was.alone }, all.1)
+    (record { head = ap (λ (h : KeptHead). with_mark h true) was.head; size = was.size; project = was.project; alone = was.alone }, all.1)
 mark_zipped dictionary (e ∷ list) (x ∷ known) (suc k) one at all = (all.0, mark_zipped dictionary list known k one at all.1)
 mark_zipped dictionary list known k one at all = absurd all
 
-marked_of : (dictionary : Entries) (list : List Deposit) (n m : ℕ) (Holds : CheckedFile → Type 0) → IsNumberOf m list × OfDeposit dictionary (sents list) m Holds → IsNumberOf m (marked n list) × OfDeposit dictionary (sents (marked n list)) m Holds
-marked_of dictionary list n m Holds it =
-    ((it.0.0, omega (arith, it.0.1, length_marked n list)), subst (λ (all : List Sent). OfDeposit dictionary all m Holds) (sym (sents_marked n list)) it.1)
-
 -- what is known agrees with the list, whose deposit is marked
-pub agrees_mark : (old new : Memory) (dictionary : Entries) (list : List Deposit) (n : ℕ) (one : Known) → 0 < n → slice_get old.known.items (n - 1) ≡ Some one → new.known.items ≡ set old.known.items (n - 1) (marked_one one)
-    → new.digests ≡ old.digests → new.rows ≡ old.rows → new.graph ≡ old.graph → Agrees old dictionary list → Agrees new dictionary (marked n list)
-agrees_mark old new dictionary list n one low at known digests rows graph agrees =
+pub agrees_mark : (old new : Memory) (dictionary : Entries) (list : List Deposit) (n : ℕ) (one : Known) → 0 < n → slice_get old.known.items (n - 1) ≡ Some one → new.known.items ≡ set old.known.items (n - 1) (marked_as one true)
+    → new.digests ≡ old.digests → Agrees old dictionary list → Agrees new dictionary (marked n list)
+agrees_mark old new dictionary list n one low at known digests agrees =
     let e : suc (n - 1) ≡ n = omega (arith, low) in
     let all = mark_zipped dictionary list old.known.items (n - 1) one at (zipped dictionary list old.known.items agrees.known) in
     record {
       known = subst₂ (λ (j : ℕ) (items : List Known). AreKnown dictionary (marked j list) items) e (sym known) (unzipped dictionary (marked (suc (n - 1)) list) _ all);
       digests = subst₂ AreDigested (sym digests) (sym (sents_marked n list)) agrees.digests;
       below = subst₂ (λ (held : Digests) (m : ℕ). AreBelow held (m + 1)) (sym digests) (sym (length_marked n list)) agrees.below;
-      rows = λ held there. marked_of dictionary list n held.number (HasKeptRows held.rows) (agrees.rows held (sym rows ∙ there));
-      graph = λ held there. marked_of dictionary list n held.number (HasGraph held.graph) (agrees.graph held (sym graph ∙ there));
     }
 
 -- no deposit has the number
@@ -195,15 +187,15 @@ agrees_still old new memory dictionary agrees quiet clean well =
     subst (λ (db : Database). Agrees memory dictionary (deposits_in db.trees)) (sym (quiet.same clean well).1) (agrees (clean_before old new quiet.survives clean))
 
 -- what was read is noted
-pub agrees_noted : (old new : State) {failed : Bool} (memory noted : Memory) (dictionary : Entries) (n : ℕ) {IsRead : Entries → List Sent → Type 0} → (HasCleanDisk old → Agrees memory dictionary (deposits_in old.committed.trees)) → IsStill old new failed
-    → Remembers memory noted n IsRead → (HasCleanDisk old → IsNumberOf n (deposits_in old.committed.trees)) → (HasCleanDisk old → IsRead dictionary (sents (deposits_in old.committed.trees))) → HasCleanDisk new → failed ≡ false → Agrees noted dictionary (deposits_in new.committed.trees)
-agrees_noted old new memory noted dictionary n agrees quiet notes number read clean well =
+pub agrees_noted : (old new : State) {failed : Bool} (memory noted : Memory) (dictionary : Entries) {IsRead : Entries → List Sent → Type 0} → (HasCleanDisk old → Agrees memory dictionary (deposits_in old.committed.trees)) → IsStill old new failed
+    → Remembers memory noted IsRead → (HasCleanDisk old → IsRead dictionary (sents (deposits_in old.committed.trees))) → HasCleanDisk new → failed ≡ false → Agrees noted dictionary (deposits_in new.committed.trees)
+agrees_noted old new memory noted dictionary agrees quiet notes read clean well =
     let first = clean_before old new quiet.survives clean in
     subst (λ (db : Database). Agrees noted dictionary (deposits_in db.trees)) (sym (quiet.same clean well).1)
-    (notes.agrees dictionary (deposits_in old.committed.trees) (number first) (read first) (agrees first))
+    (notes.agrees dictionary (deposits_in old.committed.trees) (read first) (agrees first))
 
 -- the store that held the list still holds it
-pub keeps_noted : (old new : State) {failed : Bool} (memory noted : Memory) (dictionary : Entries) (n : ℕ) {IsRead : Entries → List Sent → Type 0} → (HasCleanDisk old → ∥ KeepsRegister old dictionary (length memory.known.items) ∥₁) → IsStill old new failed
-    → Remembers memory noted n IsRead → HasCleanDisk new → failed ≡ false → ∥ KeepsRegister new dictionary (length noted.known.items) ∥₁
-keeps_noted old new memory noted dictionary n kept quiet notes clean well =
+pub keeps_noted : (old new : State) {failed : Bool} (memory noted : Memory) (dictionary : Entries) {IsRead : Entries → List Sent → Type 0} → (HasCleanDisk old → ∥ KeepsRegister old dictionary (length memory.known.items) ∥₁) → IsStill old new failed
+    → Remembers memory noted IsRead → HasCleanDisk new → failed ≡ false → ∥ KeepsRegister new dictionary (length noted.known.items) ∥₁
+keeps_noted old new memory noted dictionary kept quiet notes clean well =
     subst (λ count. ∥ KeepsRegister new dictionary count ∥₁) (sym notes.long) (keeps_quiet old new kept quiet clean well)

@@ -28,7 +28,7 @@ use Rattle.reg_tables.proofs.ShowsLaws.{row_of_number}
 use Rattle.ags_links.proofs.Lemmas.{steps_ascend}
 use Rattle.ags_check.proofs.Lemmas.{one_clean_file}
 use Rattle.ags_links.specs.Walks.{StepGraph}
-use Rattle.reg_tables.specs.Methods.{HasRows, HasSteps}
+use Rattle.reg_tables.specs.Methods.{HasSteps}
 
 -- one row is that of one deposit
 pub same_deposit : (n : ℕ) (a b : Sent) (rows : List Row) → rows ≡ given_deposit n a ∷ []
@@ -121,16 +121,17 @@ graph_ascends file is = ascending file.graph.steps (steps_ascend file.graph.step
 one_wiring : (a b : StepGraph) → a.rows ≡ b.rows → a.steps ≡ b.steps → a ≡ b
 one_wiring a b p q = λ i. record { rows = p i; steps = q i }
 
-wiring_set : (a b : StepGraph) → IsProp (a ≡ b)
-wiring_set a b = Prim.hlevel props
+steps_set : (a b : List (ℕ × ℕ)) → IsProp (a ≡ b)
+steps_set a b = Prim.hlevel props
 
 pub graph_at : {s : State} {dictionary : Entries} {count : ℕ} (n : ℕ) (r : Result StepGraph KeepError) → 0 < n
     → ∥ KeepsRegister s dictionary count ∥₁
-    → IfOk r (λ graph. HasRows n (line_table s.now.trees) graph.rows)
+    → IfOk r (λ graph. (d : Sent) (file : CheckedFile) → slice_get (sents (deposits_in s.committed.trees)) (n - 1)
+    ≡ Some d → IsFileOf dictionary d file → graph.rows ≡ file.graph.rows)
     → IfOk r (λ graph. HasSteps n (step_table s.now.trees) graph.steps)
     → IfOk r (λ graph. (d : Sent) (file : CheckedFile) → slice_get (sents (deposits_in s.committed.trees)) (n - 1)
     ≡ Some d → IsFileOf dictionary d file → graph ≡ file.graph)
-graph_at n (Ok graph) low h rows steps = of_file (λ g. g) (λ file. file.graph) wiring_set n (Ok graph) low h (λ d file its lines held.
-    one_wiring graph file.graph (rows file.groups lines ∙ sym its.clean.graph.rows)
-    (steps file.graph.steps (graph_ascends file its.clean.graph) held))
+graph_at n (Ok graph) low h rows steps = λ d file at its. one_wiring graph file.graph (rows d file at its)
+    (of_file (λ (g : StepGraph). g.steps) (λ f. f.graph.steps) steps_set n (Ok graph) low h (λ e held own lines kept.
+    steps held.graph.steps (graph_ascends held own.clean.graph) kept) d file at its)
 graph_at n (Err e) low h rows steps = tt

@@ -30,7 +30,6 @@ use Rattle.sqlite_schema.specs.declared.schema.Keys.TheVariants.{Enforced}
 use Rattle.ags_dict.specs.Entries.{Entries}
 use Rattle.reg_store.specs.Deposit.{Deposit, sents, unmarked}
 use Rattle.reg_store.specs.Sent.{Sent}
-use Rattle.reg_store.specs.declared.keep.KeptHead.{KeptHead}
 use Rattle.reg_store.specs.declared.keep.KeepError.{KeepError}
 use Rattle.reg_store.specs.declared.keep.KeepError.TheVariants as keep
 use Rattle.reg_store.specs.Keep.{is_store}
@@ -46,11 +45,12 @@ use Rattle.reg_tables.specs.Inside.{Inside, Ran}
 use Rattle.reg_tables.proofs.MarksLaws.{none_withdrawn, sents_unmarked}
 use Rattle.reg_tables.proofs.MeaningLaws.{all_meta_read, format_raised, raise_is}
 use Rattle.reg_tables.specs.KeepLaws.{ChangesOf}
+use Rattle.reg_tables.specs.declared.memory.Known.{Known}
 use Rattle.reg_tables.specs.declared.memory.Memory.{Memory}
 use Rattle.reg_tables.specs.declared.memory.digests.Digests.{Digests}
 use Rattle.reg_tables.specs.Digests.{AreBelow, AreDigested, HoldsDigests}
 use Rattle.reg_tables.specs.Formats.{StartsWithMeta}
-use Rattle.reg_tables.specs.Heads.{AreHeads, HoldsHeads, head_of}
+use Rattle.reg_tables.specs.Heads.{AreNew, HoldsKnown}
 use Rattle.reg_tables.specs.Memory.{Agrees, Recalls}
 use Rattle.reg_tables.specs.Migrates.{AddsWithdrawals, FindsFirst, HoldsFirst, IsMigrated, MigratedOf, Migrates, RecallsFirst}
 use Rattle.reg_tables.specs.Register.{deposits_in, HoldsSent, IsRegister, IsRegisterOf, marks_of, meta_columns, sents_in, tables, text_in}
@@ -63,6 +63,7 @@ use Rattle.reg_tables.proofs.Texts.{raise_format, select_meta}
 use Rattle.reg_tables.proofs.AddsLemmas.{kept_either}
 use Rattle.reg_tables.proofs.OpenLemmas.{found_tables}
 use Rattle.reg_tables.proofs.QueryLemmas.{fails_so, shown_same}
+use Rattle.reg_tables.proofs.HeadsLemmas.{new_held, new_of_some}
 use Rattle.reg_tables.proofs.RepeatsLemmas.{digested_held}
 use Rattle.reg_tables.proofs.StoredText.{text_of_meta}
 
@@ -162,14 +163,15 @@ none_marked : (list : List Sent) → marks_of (map unmarked list) ≡ replicate 
 none_marked [] = refl
 none_marked (d ∷ list) = ap (λ marks. false ∷ marks) (none_marked list)
 
-pub recalled_first : (db : Database) (dictionary : Entries) (count : ℕ) (heads : List KeptHead) (marks : List Bool) (digests : Digests) (memory : Memory) → ∥ HoldsFirst db dictionary count ∥₁ → HoldsHeads db count heads → HoldsDigests db (count + 1) digests
-    → AreBelow digests (count + 1) → length heads ≡ count → marks ≡ replicate count false → length memory.known.items ≡ length heads
-    → ((list : List Deposit) → AreHeads heads (sents list) → marks ≡ marks_of list → AreDigested digests (sents list) → AreBelow digests (length list + 1) → Agrees memory dictionary list)
+pub recalled_first : (db : Database) (dictionary : Entries) (count : ℕ) (known : List Known) (marks : List Bool) (digests : Digests) (memory : Memory) → ∥ HoldsFirst db dictionary count ∥₁ → HoldsKnown db dictionary known → HoldsDigests db (count + 1) digests
+    → AreBelow digests (count + 1) → length known ≡ count → marks ≡ replicate count false → length memory.known.items ≡ length known
+    → ((list : List Deposit) → AreNew dictionary known (sents list) → marks ≡ marks_of list → AreDigested digests (sents list) → AreBelow digests (length list + 1) → Agrees memory dictionary list)
     → RecallsFirst db dictionary memory
-recalled_first db dictionary count heads marks digests memory some are digested below long none same agrees = record {
+recalled_first db dictionary count known marks digests memory some are digested below long none same agrees = record {
   sent = subst (λ n. ∥ HoldsFirst db dictionary n ∥₁) (sym long ∙ sym same) some;
   agrees = agrees (map unmarked list)
-      (∥∥₁_elim some (Prim.hlevel props) (λ (p : HoldsFirst db dictionary count). are p.0 p.1.deposits p.2 ∙ ap (map head_of) (sym (its p))))
+      (new_of_some dictionary known (sents (map unmarked list)) (∥∥₁_map some (λ (p : HoldsFirst db dictionary count).
+      subst (AreNew dictionary known) (sym (its p)) (new_held db dictionary known p.0 p.1.deposits are))))
       (none ∙ ap (λ n. replicate n false) (sym count_is) ∙ sym (none_marked list))
       (λ k d at. ∥∥₁_elim some (Prim.hlevel props) (λ (p : HoldsFirst db dictionary count).
       subst (AreDigested digests) (sym (its p)) (digested_held db digests p.0 p.1.deposits (subst (λ n. HoldsDigests db (n + 1) digests) (sym p.2) digested)) k d at))

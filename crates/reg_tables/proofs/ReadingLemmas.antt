@@ -1,5 +1,5 @@
 -- What is read of the rows of an answer.
-use Rattle.std.proofs.Common.{◌≡◌, ℕ, List, [], ◌∷◌, map, filter, length, pos, Ok, Err, Result, IfOk, sym, ap, subst, ◌∙◌}
+use Rattle.std.proofs.Common.{◌≡◌, ℕ, List, [], ◌∷◌, map, pos, Ok, Err, Result, IfOk, sym, subst, ◌∙◌}
 use Rattle.std.specs.List.Sorted.{IsPermutation}
 use Rattle.sqlite.specs.declared.types.Value.TheVariants.{Int}
 use Rattle.sqlite.specs.Order.{Row}
@@ -14,10 +14,6 @@ use Rattle.reg_store.specs.declared.keep.KeptRow.{KeptRow}
 use Rattle.reg_store.specs.declared.keep.KeepError.{KeepError}
 use Rattle.reg_store.specs.Keep.{sent_of}
 use Rattle.reg_tables.specs.Rows.{given_deposit, line_table, step_table, placed_rows, step_pair, rows_under}
-use Rattle.reg_store.specs.Fit.{kept_rows}
-use Rattle.reg_tables.specs.DataCount.{is_shown_data}
-use Rattle.reg_tables.proofs.DataCountLaws.{counted, counted_shown}
-use Rattle.reg_tables.specs.Methods.{HasRows}
 use Rattle.reg_tables.proofs.ReadsLaws.{holds_lines, reads_lines}
 use Rattle.reg_tables.proofs.ReadsStepsLaws.{holds_steps, reads_steps, same_places, same_pairs}
 
@@ -40,7 +36,3 @@ steps_read old new n steps has shown others up are = same_pairs steps others (sy
 pub steps_held : (old new : State) (n : ℕ) (steps : List (ℕ × ℕ)) → HasTables old.now.schema → (rows : List Row) × Shown select_steps (Int (pos n) ∷ []) old new rows × (rows ≡ map step_pair steps)
     → IsPermutation (map step_pair steps) (rows_under n (step_table old.now.trees))
 steps_held old new n steps has shown = subst (λ all. IsPermutation all (rows_under n (step_table old.now.trees))) shown.2 (holds_steps old new n shown.0 has shown.1)
-
-pub data_read : (old new : State) (n count : ℕ) → HasTables old.now.schema → (rows : List Row) × Shown select_lines (Int (pos n) ∷ []) old new rows × (count ≡ length (filter is_shown_data rows)) → HasRows n (line_table old.now.trees) count
-data_read old new n count has shown groups are =
-    shown.2 ∙ ap (λ all. length (filter is_shown_data all)) (reads_lines old new n (kept_rows groups) shown.0 has are shown.1) ∙ counted_shown 0 (kept_rows groups) ∙ counted groups

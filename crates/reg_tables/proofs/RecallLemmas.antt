@@ -1,5 +1,5 @@
 -- What was sent and the marks that are found beside it are a register, and what is known of both agrees with it.
-use Rattle.std.proofs.Common.{◌≡◌, ℕ, ◌+◌, List, Bool, length, map, Err, sym, ap, subst, ◌∙◌}
+use Rattle.std.proofs.Common.{◌≡◌, ℕ, ◌+◌, List, Bool, length, Err, sym, ap, subst, ◌∙◌}
 use Rattle.std.proofs.Math.Logic.{∥∥₁_elim, ∥∥₁_map}
 use Rattle.std.proofs.Props.{props}
 use Rattle.std.proofs.lemmas.List.{length-map}
@@ -7,17 +7,17 @@ use Rattle.std.proofs.lemmas.List.Sorted.{length_permutation}
 use Rattle.std.specs.List.Sorted.{IsPermutation}
 use Rattle.sqlite.specs.Effect.{Database}
 use Rattle.ags_dict.specs.Entries.{Entries}
-use Rattle.reg_store.specs.declared.keep.KeptHead.{KeptHead}
 use Rattle.reg_store.specs.Deposit.{Deposit, sents}
 use Rattle.reg_store.specs.Sent.{Sent}
 use Rattle.reg_tables.specs.declared.error.AdoptError.{AdoptError}
 use Rattle.reg_tables.specs.declared.error.AdoptError.TheVariants.{NotRegister, Version, Store, NoMemory}
 use Rattle.reg_tables.specs.declared.schema.format.Format.TheVariants.{Second}
+use Rattle.reg_tables.specs.declared.memory.Known.{Known}
 use Rattle.reg_tables.specs.declared.memory.Memory.{Memory}
 use Rattle.reg_tables.specs.declared.memory.digests.Digests.{Digests}
 use Rattle.reg_tables.specs.Adoption.{Adopts, FindsMarks, HoldsMarks}
 use Rattle.reg_tables.specs.Digests.{AreBelow, AreDigested, HoldsDigests}
-use Rattle.reg_tables.specs.Heads.{AreHeads, HoldsHeads, head_of}
+use Rattle.reg_tables.specs.Heads.{AreNew, HoldsKnown}
 use Rattle.reg_tables.specs.Marks.{long_sents}
 use Rattle.reg_tables.proofs.MarksLaws.{marks_paired, paired, sents_paired}
 use Rattle.reg_tables.specs.Memory.{Agrees, Recalls}
@@ -26,6 +26,7 @@ use Rattle.reg_tables.specs.RegisterLaws.{rows-length}
 use Rattle.reg_tables.specs.ReadBack.{read_back}
 use Rattle.reg_tables.specs.Rows.{deposit_table}
 use Rattle.reg_tables.proofs.ExamineLemmas.{one_format_in, register_meta}
+use Rattle.reg_tables.proofs.HeadsLemmas.{new_held, new_of_some}
 use Rattle.reg_tables.proofs.RepeatsLemmas.{digested_held}
 
 -- so many deposits were sent
@@ -38,14 +39,15 @@ paired_register db dictionary list marks holds held = record {
   marks = subst (λ all. IsPermutation (mark_rows 1 all) (mark_table Second db.trees)) (sym (marks_paired list marks held.0)) held.1;
 }
 
-pub recalled : (db : Database) (dictionary : Entries) (count : ℕ) (heads : List KeptHead) (marks : List Bool) (digests : Digests) (memory : Memory) → ∥ HoldsSome db dictionary count ∥₁ → HoldsHeads db count heads → HoldsDigests db (count + 1) digests
-    → AreBelow digests (count + 1) → length heads ≡ count → HoldsMarks count db marks → length memory.known.items ≡ length heads
-    → ((list : List Deposit) → AreHeads heads (sents list) → marks ≡ marks_of list → AreDigested digests (sents list) → AreBelow digests (length list + 1) → Agrees memory dictionary list)
+pub recalled : (db : Database) (dictionary : Entries) (count : ℕ) (known : List Known) (marks : List Bool) (digests : Digests) (memory : Memory) → ∥ HoldsSome db dictionary count ∥₁ → HoldsKnown db dictionary known → HoldsDigests db (count + 1) digests
+    → AreBelow digests (count + 1) → length known ≡ count → HoldsMarks count db marks → length memory.known.items ≡ length known
+    → ((list : List Deposit) → AreNew dictionary known (sents list) → marks ≡ marks_of list → AreDigested digests (sents list) → AreBelow digests (length list + 1) → Agrees memory dictionary list)
     → Recalls db dictionary memory
-recalled db dictionary count heads marks digests memory some are digested below long held same agrees = record {
+recalled db dictionary count known marks digests memory some are digested below long held same agrees = record {
   register = ∥∥₁_map some (λ (p : HoldsSome db dictionary count). (paired p.0 marks, register p, count_is p ∙ sym long ∙ sym same));
   agrees = agrees list
-      (∥∥₁_elim some (Prim.hlevel props) (λ (p : HoldsSome db dictionary count). are p.0 p.1.deposits p.2 ∙ ap (map head_of) (sent_is p)))
+      (new_of_some dictionary known (sents list) (∥∥₁_map some (λ (p : HoldsSome db dictionary count).
+      subst (AreNew dictionary known) (sent_is p) (new_held db dictionary known p.0 p.1.deposits are))))
       (∥∥₁_elim some (Prim.hlevel props) (λ (p : HoldsSome db dictionary count). sym (marks_paired p.0 marks (marks_long p)) ∙ ap marks_of (list_is p)))
       (λ k d at. ∥∥₁_elim some (Prim.hlevel props) (λ (p : HoldsSome db dictionary count).
       subst (AreDigested digests) (sent_is p) (digested_held db digests p.0 p.1.deposits (subst (λ n. HoldsDigests db (n + 1) digests) (sym p.2) digested)) k d at))

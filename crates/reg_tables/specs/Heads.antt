@@ -1,44 +1,59 @@
--- The heads of a register's deposits. No promise is made of these words; `Agrees` uses `head_of`.
-use Rattle.std.specs.Prelude.{◌≡◌, ℕ, Bool, true, false, List, [], ◌∷◌, ◌++◌, length, map, Result, Ok}
+-- What is known of each deposit as a register is examined. No promise is made of these words; `Agrees` uses some.
+use Rattle.std.specs.Prelude.{◌≡◌, ℕ, ◌+◌, Bool, true, false, List, [], ◌∷◌, ◌++◌, Some, None, slice_get, Result, Ok}
 use Rattle.std.specs.declared.alloc.Global.{Global}
 use Rattle.std.specs.declared.vec.Vec.{Vec}
-use Rattle.std.specs.List.Sorted.{IsPermutation}
 use Rattle.sqlite.specs.Effect.{Database}
 use Rattle.sqlite.specs.State.{State, HasCleanDisk}
+use Rattle.ags_dict.specs.Entries.{Entries}
 use Rattle.reg_tables.specs.declared.open.head.DigestedHead.{DigestedHead}
+use Rattle.reg_tables.specs.declared.memory.Known.{Known}
 use Rattle.reg_tables.specs.declared.memory.digests.Digests.{Digests}
+use Rattle.reg_tables.specs.declared.memory.room.Size.{Size}
 use Rattle.reg_store.specs.declared.keep.KeptHead.{KeptHead}
+use Rattle.reg_store.specs.Reading.{OfFile}
 use Rattle.reg_store.specs.Sent.{Sent}
 use Rattle.reg_tables.specs.Digests.{AddsNumber, IsRowOf, own_digest}
-use Rattle.reg_tables.specs.Rows.{deposit_table}
-use Rattle.reg_tables.specs.Register.{deposit_rows}
 
 -- the head of what was sent, as of a deposit without a mark
 abbrev pub head_of : Sent → KeptHead
 head_of d = record { firm = d.firm; project = d.project; embargo = d.embargo; withdrawn = false }
 
--- The heads are, in order, those of the deposits.
-abbrev pub AreHeads : List KeptHead → List Sent → Type 0
-AreHeads heads list = heads ≡ map head_of list
+-- Of a deposit of this head, which has so much, nothing was read.
+abbrev pub new_known : KeptHead → Size → Known
+new_known head size = record { head = head; size = size; project = None; alone = None }
 
--- The head and the digest are those of the deposit.
-abbrev pub IsDigestedFrom : Sent → DigestedHead → Type 0
-IsDigestedFrom d one = (one.head ≡ head_of d) × (one.digest ≡ own_digest d)
+-- The size has the number of DATA rows of the deposit's file.
+abbrev pub IsSizeOf : Entries → Sent → Size → Type 0
+IsSizeOf dictionary d size = OfFile dictionary d (λ file. size.rows ≡ file.graph.rows)
 
--- The head and the digest are those of the deposit whose row is the only one of the number.
-abbrev pub IsDigestedAt : Database → ℕ → DigestedHead → Type 0
-IsDigestedAt db n one = (d : Sent) → IsRowOf db n d → IsDigestedFrom d one
+-- This is known of the deposit: its head, as of one without a mark, and its size.
+pub record IsNewOf (dictionary : Entries) (d : Sent) (one : Known) : Type 0 where
+  pub known : one ≡ new_known (head_of d) one.size
+  pub size : IsSizeOf dictionary d one.size
 
--- The heads are those of the deposits in the tables, of which there are so many.
-abbrev pub HoldsHeads : Database → ℕ → List KeptHead → Type 0
-HoldsHeads db count heads = (list : List Sent) → IsPermutation (deposit_rows 1 list) (deposit_table db.trees)
-    → length list ≡ count → AreHeads heads list
+-- This is known of the deposits, in their order.
+abbrev pub AreNew : Entries → List Known → List Sent → Type 0
+AreNew dictionary known list = (k : ℕ) (d : Sent) (one : Known) → slice_get list k ≡ Some d
+    → slice_get known k ≡ Some one → IsNewOf dictionary d one
 
--- Where the answer is yes, a head is after the others, and the number under its digest; on a clean disk both are of
--- the number's deposit.
-abbrev pub AddsHead : {E : Type 0} → Result Bool E → ℕ → Vec KeptHead Global → Vec KeptHead Global → Digests → Digests
-    → State → State → Type 0
-AddsHead result n heads heads' digests digests' old new =
+-- This is known of the deposit, and the digest is its own.
+abbrev pub IsDigestedFrom : Entries → Sent → DigestedHead → Type 0
+IsDigestedFrom dictionary d one = IsNewOf dictionary d one.known × (one.digest ≡ own_digest d)
+
+-- The same of the deposit whose row is the only one of the number.
+abbrev pub IsDigestedAt : Database → Entries → ℕ → DigestedHead → Type 0
+IsDigestedAt db dictionary n one = (d : Sent) → IsRowOf db n d → IsDigestedFrom dictionary d one
+
+-- This is known of the deposits in the tables, from number 1 on.
+abbrev pub HoldsKnown : Database → Entries → List Known → Type 0
+HoldsKnown db dictionary known = (k : ℕ) (one : Known) → slice_get known k ≡ Some one
+    → (d : Sent) → IsRowOf db (k + 1) d → IsNewOf dictionary d one
+
+-- Where the answer is yes, what is known of one deposit more is after the rest, and the number under its digest; on a
+-- clean disk both are of the number's deposit.
+abbrev pub AddsKnown : {E : Type 0} → Result Bool E → Entries → ℕ → Vec Known Global → Vec Known Global → Digests
+    → Digests → State → State → Type 0
+AddsKnown result dictionary n known known' digests digests' old new =
     result ≡ Ok true
-    → (one : DigestedHead) × (heads'.items ≡ heads.items ++ one.head ∷ []) × AddsNumber digests digests' one.digest n
-    × (HasCleanDisk new → IsDigestedAt old.now n one)
+    → (one : DigestedHead) × (known'.items ≡ known.items ++ one.known ∷ []) × AddsNumber digests digests' one.digest n
+    × (HasCleanDisk new → IsDigestedAt old.now dictionary n one)

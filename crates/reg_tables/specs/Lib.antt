@@ -17,8 +17,6 @@ pub mod KeepLaws
 pub mod Creates
 pub mod Adopts
 pub mod Methods
-pub mod DataCount
-pub mod Small
 pub mod Memory
 pub mod Found
 pub mod Formats

@@ -1,29 +1,22 @@
 -- What is known of the deposits without the tables, and that it agrees with the list of deposits. No promise is made of
 -- these words; the type `SqlKeep` keeps `Agrees`.
-use Rattle.std.specs.Prelude.{◌≡◌, ◌<◌, ◌≤◌, ◌+◌, ℕ, Bool, List, [], ◌∷◌, ◌++◌, length, IsSome, Some, None, slice_get}
+use Rattle.std.specs.Prelude.{◌≡◌, ◌<◌, ◌≤◌, ◌+◌, ℕ, Bool, List, [], ◌∷◌, ◌++◌, length, IsSome, Some, slice_get}
 use Rattle.std.specs.Prelude.{vec_len, vec_capacity}
 use Rattle.std.specs.Option.{ForSome}
 use Rattle.ags_dict.specs.Entries.{Entries}
 use Rattle.ags_check.specs.Findings.{CheckedFile}
 use Rattle.reg_store.specs.declared.keep.KeptHead.{KeptHead}
-use Rattle.reg_store.specs.Keep.{OfDeposit}
 use Rattle.reg_store.specs.Project.{targets_of}
-use Rattle.reg_store.specs.Reading.{HasGraph, HasKeptRows, HasProjectRow, OfFile}
+use Rattle.reg_store.specs.Reading.{HasProjectRow, OfFile}
 use Rattle.reg_store.specs.Sent.{Sent}
 use Rattle.reg_store.specs.Deposit.{Deposit, sents}
 use Rattle.reg_tables.specs.declared.memory.Coming.{Coming}
 use Rattle.reg_tables.specs.declared.memory.Known.{Known}
 use Rattle.reg_tables.specs.declared.memory.Memory.{Memory}
-use Rattle.reg_tables.specs.declared.memory.recent.RecentGraph.{RecentGraph}
-use Rattle.reg_tables.specs.declared.memory.recent.RecentRows.{RecentRows}
 use Rattle.sqlite.specs.Effect.{Database}
 use Rattle.reg_tables.specs.Register.{IsRegister, deposits_in}
 use Rattle.reg_tables.specs.Digests.{AreBelow, AreDigested, found_at, numbers_under, own_digest}
-use Rattle.reg_tables.specs.Heads.{head_of}
-
--- Of a deposit of this head nothing was read.
-abbrev pub new_known : KeptHead → Known
-new_known head = record { head = head; project = None; alone = None }
+use Rattle.reg_tables.specs.Heads.{IsSizeOf, head_of, new_known}
 
 -- the head with this mark
 abbrev pub with_mark : KeptHead → Bool → KeptHead
@@ -33,9 +26,10 @@ with_mark head mark = record { firm = head.firm; project = head.project; embargo
 abbrev pub HasNoTarget : ℕ → CheckedFile → Type 0
 HasNoTarget row file = [] ≡ targets_of row file.graph.steps
 
--- What is known of a deposit is its head with its mark, and what was read is what its file has.
+-- What is known of a deposit is its head with its mark and its size, and what was read is what its file has.
 pub record IsKnown (dictionary : Entries) (d : Deposit) (one : Known) : Type 0 where
   pub head : one.head ≡ with_mark (head_of d.sent) d.withdrawn
+  pub size : IsSizeOf dictionary d.sent one.size
   pub project : ForSome one.project (λ row. OfFile dictionary d.sent (HasProjectRow (Some row)))
   pub alone : ForSome one.alone (λ row. OfFile dictionary d.sent (HasNoTarget row))
 
@@ -45,20 +39,11 @@ pub record AreKnown (dictionary : Entries) (list : List Deposit) (known : List K
   pub each : (k : ℕ) (d : Deposit) (one : Known) → slice_get list k ≡ Some d → slice_get known k ≡ Some one
       → IsKnown dictionary d one
 
--- A deposit has the number.
-abbrev pub IsNumberOf : ℕ → List Deposit → Type 0
-IsNumberOf n list = (0 < n) × (n ≤ length list)
-
--- What is known agrees with the list: of each deposit, of each digest, and of the deposits whose rows and steps were
--- read last.
+-- What is known agrees with the list: of each deposit, and of each digest.
 pub record Agrees (memory : Memory) (dictionary : Entries) (list : List Deposit) : Type 0 where
   pub known : AreKnown dictionary list memory.known.items
   pub digests : AreDigested memory.digests (sents list)
   pub below : AreBelow memory.digests (length list + 1)
-  pub rows : ForSome memory.rows (λ (held : RecentRows).
-      IsNumberOf held.number list × OfDeposit dictionary (sents list) held.number (HasKeptRows held.rows))
-  pub graph : ForSome memory.graph (λ (held : RecentGraph).
-      IsNumberOf held.number list × OfDeposit dictionary (sents list) held.number (HasGraph held.graph))
 
 -- The tables are a register of this dictionary and of a list that is as long as what is known, which agrees with it.
 pub record Recalls (db : Database) (dictionary : Entries) (memory : Memory) : Type 0 where
@@ -66,11 +51,10 @@ pub record Recalls (db : Database) (dictionary : Entries) (memory : Memory) : Ty
       × (length list ≡ length memory.known.items)) ∥₁
   pub agrees : Agrees memory dictionary (deposits_in db.trees)
 
--- As many deposits are known, and what agreed with a list still does, if this is so of it and the number is one of its
--- deposits.
-pub record Remembers (old new : Memory) (n : ℕ) (IsRead : Entries → List Sent → Type 0) : Type 0 where
+-- As many deposits are known, and what agreed with a list still does, if this is so of it.
+pub record Remembers (old new : Memory) (IsRead : Entries → List Sent → Type 0) : Type 0 where
   pub long : length new.known.items ≡ length old.known.items
-  pub agrees : (dictionary : Entries) (list : List Deposit) → IsNumberOf n list → IsRead dictionary (sents list)
+  pub agrees : (dictionary : Entries) (list : List Deposit) → IsRead dictionary (sents list)
       → Agrees old dictionary list → Agrees new dictionary list
 
 -- There is room for one deposit more.
@@ -80,7 +64,7 @@ pub record HasRoom (memory : Memory) (coming : Coming) : Type 0 where
 
 -- This deposit is to come next.
 pub record IsComing (memory : Memory) (d : Sent) (coming : Coming) : Type 0 where
-  pub known : coming.known ≡ new_known (head_of d)
+  pub known : coming.known ≡ new_known (head_of d) coming.known.size
   pub digest : coming.digest ≡ own_digest d
   pub numbers : coming.numbers.items
       ≡ numbers_under memory.digests (own_digest d) ++ (length memory.known.items + 1) ∷ []

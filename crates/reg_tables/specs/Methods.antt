@@ -1,6 +1,6 @@
 -- What the private functions that read lines and steps find, from what the connection shows. No promise is made of
 -- these words.
-use Rattle.std.specs.Prelude.{◌≡◌, ℕ, List, length, map}
+use Rattle.std.specs.Prelude.{◌≡◌, ℕ, List, map}
 use Rattle.std.specs.List.Sorted.{IsPermutation}
 use Rattle.sqlite.specs.Tree.{IsAscending}
 use Rattle.sqlite.specs.Order.{Row}
@@ -8,10 +8,6 @@ use Rattle.sqlite.specs.Effect.{Database}
 use Rattle.ags_links.specs.Steps.{IsBefore}
 use Rattle.reg_store.specs.declared.keep.KeptRow.{KeptRow}
 use Rattle.reg_tables.specs.Rows.{line_table, step_table, placed_rows, rows_under, step_pair}
-use Rattle.reg_store.specs.Fit.{kept_rows}
-use Rattle.ags_rows.specs.declared.rows.Group.{Group}
-use Rattle.ags_rows.specs.Contents.{contents_of}
-use Rattle.ags_links.specs.DataRows.{data_rows}
 
 -- ---- the rows of a deposit
 
@@ -28,10 +24,6 @@ abbrev pub AreRowsAt : Database → ℕ → List KeptRow → Type 0
 AreRowsAt db n rows = (file : List KeptRow) → HoldsLines db n file → rows ≡ file
 
 -- ---- the steps of a deposit
-
-abbrev pub HasRows : ℕ → List Row → ℕ → Type 0
-HasRows n table rows = (groups : List Group) → IsPermutation (placed_rows 0 (kept_rows groups)) (rows_under n table)
-    → rows ≡ length (data_rows (contents_of groups))
 
 abbrev pub HasSteps : ℕ → List Row → List (ℕ × ℕ) → Type 0
 HasSteps n table read = (steps : List (ℕ × ℕ)) → IsAscending IsBefore steps

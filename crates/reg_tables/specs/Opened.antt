@@ -11,6 +11,7 @@ use Rattle.ags_dict.specs.Entries.{Entries}
 use Rattle.reg_tables.specs.declared.error.AdoptError.{AdoptError}
 use Rattle.reg_store.specs.Deposit.{Deposit}
 use Rattle.reg_tables.specs.declared.schema.format.Format.{Format}
+use Rattle.reg_tables.specs.declared.schema.format.Format.TheVariants.{First, Second}
 use Rattle.reg_tables.specs.Tables.{no_schema}
 use Rattle.reg_tables.specs.Register.{IsRegister, deposits_in, text_in}
 use Rattle.reg_tables.specs.Adoption.{Adopts}
@@ -45,6 +46,14 @@ pub record RefusesFiles (format : Format) (image : Image) (error : AdoptError) :
   pub sound : IsDatabase db
   pub found : FindsTables image db.trees
   pub refused : Adopts format db (Err error)
+
+-- The same, where a register is opened.
+abbrev pub RefusesOpening : Image → AdoptError → Type 0
+RefusesOpening = RefusesFiles Second
+
+-- The same, where one of format 1 is migrated.
+abbrev pub RefusesMigration : Image → AdoptError → Type 0
+RefusesMigration = RefusesFiles First
 
 -- An open finds a sound database, and this holds of its tables, indexes and views.
 pub record FindsSchema (image : Image) (Has : Schema → Type 0) : Type 0 where

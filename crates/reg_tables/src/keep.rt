@@ -10,7 +10,7 @@ ghost use Rattle.reg_tables.specs.Register.{deposits_in, KeepsIfClean, KeepsRegi
 
 use crate::memory::Memory;
 use crate::memory::digests::digest_of;
-use crate::memory::recent::copy_rows;
+use crate::memory::room::Size;
 use crate::read::equal::read_equal;
 use crate::read::graph::read_graph;
 use crate::read::lines::read_lines;
@@ -24,7 +24,7 @@ use ags_check::Checked;
 use ags_dict::Dictionary;
 use ags_links::Graph;
 use reg_policy::{Day, Name};
-use reg_store::{Keep, KeepError, Kept, KeptHead, KeptRow, MOST, ProjectRow, copy_graph};
+use reg_store::{Keep, KeepError, Kept, KeptHead, KeptRow, MOST, ProjectRow};
 use sqlite::{Alter, Connection};
 use std::alloc::Global;
 
@@ -90,9 +90,10 @@ impl<S: Alter> Keep for SqlKeep<S> {
         if count >= MOST {
             return Err(KeepError::Full);
         }
+        let size = Size::of(checked);
         let room = self
             .memory
-            .make_room(self.alloc, firm, project, embargo, checked.bytes());
+            .make_room(self.alloc, firm, project, embargo, checked.bytes(), size);
         let Ok(coming) = room else {
             return Err(KeepError::NoMemory);
         };
@@ -145,24 +146,15 @@ impl<S: Alter> Keep for SqlKeep<S> {
     }
 
     fn rows(&mut self, n: u32) -> Result<Vec<KeptRow>, KeepError> {
-        if let Some(rows) = self.memory.held_rows(n) {
-            let copied = copy_rows(self.alloc, rows)?;
-            return Ok(copied);
-        }
         let found = read_lines(&mut self.connection, self.alloc, n);
         self.has_failed = has_store_error(&found);
-        self.memory.note_rows(self.alloc, n, &found);
         found
     }
 
     fn steps(&mut self, n: u32) -> Result<Graph, KeepError> {
-        if let Some(graph) = self.memory.held_graph(n) {
-            let copied = copy_graph(self.alloc, graph)?;
-            return Ok(copied);
-        }
-        let found = read_graph(&mut self.connection, self.alloc, n);
+        let rows = self.memory.row_count(n);
+        let found = read_graph(&mut self.connection, self.alloc, n, rows);
         self.has_failed = has_store_error(&found);
-        self.memory.note_graph(self.alloc, n, &found);
         found
     }
 
@@ -219,6 +211,11 @@ impl<S: Alter> Keep for SqlKeep<S> {
 }
 
 impl<S: Alter> SqlKeep<S> {
+    /// The bytes of address space that a start is reckoned to take which opens this register.
+    pub fn next_start(&self) -> u64 {
+        self.memory.next_start()
+    }
+
     /// The connection, whose tables are the register of this list where the store has not failed and the disk is clean.
     pub fn into_connection(self) -> Connection<S>
         ensures connection { result ≡ self.connection }

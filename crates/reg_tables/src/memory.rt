@@ -1,26 +1,24 @@
-//! What is known of the deposits without the tables: their heads, and what was read of them last.
+//! What is known of the deposits without the tables: their heads, their rows of PROJ, and their digests.
 
-ghost use Rattle.std.specs.Prelude.{◌≡◌, ◌≢◌, ◌↔◌, ◌+◌, ◌++◌, ◌∷◌, ◌-◌, ◌<◌, ◌≤◌, [], List, length, false, Some, Err};
+ghost use Rattle.std.specs.Prelude.{◌≡◌, ◌≢◌, ◌↔◌, ◌+◌, ◌++◌, ◌∷◌, ◌-◌, ◌<◌, ◌≤◌, [], ℕ, List, length, false, Some, Err};
 ghost use Rattle.std.specs.Prelude.{slice_get, IsTrue, IfOk, IfErr, IfSome};
 ghost use Rattle.ags_dict.specs.Entries.{Entries};
-ghost use Rattle.reg_store.specs.Fit.{kept_rows};
 ghost use Rattle.reg_store.specs.Keep.{OfDeposit, fails};
-ghost use Rattle.reg_store.specs.Reading.{HasGraph, HasKeptRows, HasProjectRow, HasTargets, IsHeadAt};
+ghost use Rattle.reg_store.specs.Reading.{HasProjectRow, HasTargets, IsHeadAt};
 ghost use Rattle.reg_store.specs.Deposit.{Deposit, marked, sents, unmarked};
 ghost use Rattle.reg_store.specs.Sent.{Sent, numbers_from};
 ghost use Rattle.reg_tables.specs.Digests.{AreBelow, AreDigested, numbers_under};
-ghost use Rattle.reg_tables.specs.Heads.{AreHeads};
+ghost use Rattle.reg_tables.specs.Heads.{AreNew, IsSizeOf};
 ghost use Rattle.reg_tables.specs.Register.{marks_of};
 ghost use Rattle.reg_tables.specs.Rows.{deposit_from};
 
 pub(crate) mod digests;
-pub(crate) mod recent;
+pub(crate) mod room;
 
 use crate::memory::digests::{Digests, digest_of};
-use crate::memory::recent::{RecentGraph, RecentRows, small_graph, small_rows};
-use ags_links::Graph;
+use crate::memory::room::{Room, Size, Totals};
 use reg_policy::{Day, Name};
-use reg_store::{KeepError, KeptHead, KeptRow, ProjectRow};
+use reg_store::{KeepError, KeptHead, ProjectRow};
 use std::alloc::{AllocError, Global};
 
 /// What is known of the deposits.
@@ -32,18 +30,16 @@ pub(crate) struct Memory {
     digests: Digests,
     /// How many rows of PROJ there are.
     projects: u32,
-    /// The rows that were read last.
-    rows: Option<RecentRows>,
-    /// The steps that were read last.
-    graph: Option<RecentGraph>,
+    /// How much the register had and has.
+    room: Room,
     ghost few: { length known.items ≤ 999999 },
 }
 
 impl Memory {
     ghost use Rattle.reg_tables.specs.Memory.{Agrees, HasNoTarget, HasRoom, IsComing, Remembers};
 
-    /// No deposit is known.
-    pub(crate) fn new(alloc: Global) -> Memory
+    /// No deposit is known, of a register whose dictionary has so many bytes.
+    pub(crate) fn new(alloc: Global, dictionary_bytes: usize) -> Memory
         ensures agrees { (dictionary : Entries) → Agrees result dictionary [] }
         ensures none { result.known.items ≡ [] }
     {
@@ -51,42 +47,36 @@ impl Memory {
             known: Vec::new(alloc),
             digests: Digests::new(alloc),
             projects: 0,
-            rows: None,
-            graph: None,
+            room: Room::of_new(dictionary_bytes),
         }
     }
 
-    /// The deposits of these heads and marks, whose numbers these digests have.
-    pub(crate) fn of(
-        alloc: Global,
-        heads: &[KeptHead],
-        marks: &[bool],
-        digests: Digests,
-    ) -> Result<Memory, AllocError>
-        requires few { length heads.now ≤ 999999 }
-        requires marks { length marks.now ≡ length heads.now }
-        ensures agrees { IfOk result (λ memory. (dictionary : Entries) (list : List Deposit)
-            → AreHeads heads.now (sents list) → marks.now ≡ marks_of list → AreDigested digests (sents list)
-            → AreBelow digests (length list + 1) → Agrees memory dictionary list) }
-        ensures long { IfOk result (λ memory. length memory.known.items ≡ length heads.now) }
+    /// What was found of the deposits, with these marks.
+    pub(crate) fn of(found: Found, marks: &[bool]) -> Memory
+        requires few { length found.known.items ≤ 999999 }
+        requires marks { length marks.now ≡ length found.known.items }
+        ensures agrees { (dictionary : Entries) (list : List Deposit)
+            → AreNew dictionary found.known.items (sents list) → marks.now ≡ marks_of list
+            → AreDigested found.digests (sents list) → AreBelow found.digests (length list + 1)
+            → Agrees result dictionary list }
+        ensures long { length result.known.items ≡ length found.known.items }
     {
-        let mut known = Vec::with_capacity(alloc, heads.len())?;
-        for at in 0..heads.len() {
-            let mut head = heads[at].clone()?;
-            head.withdrawn = marks[at];
-            known.push(Known {
-                head,
-                project: None,
-                alone: None,
-            })?;
+        let Found {
+            mut known,
+            digests,
+            dictionary_bytes,
+        } = found;
+        let mut totals = Totals::of_dictionary(dictionary_bytes);
+        for at in 0..known.len() {
+            known[at].head.withdrawn = marks[at];
+            totals = totals.with(known[at].size);
         }
-        Ok(Memory {
+        Memory {
             known,
             digests,
             projects: 0,
-            rows: None,
-            graph: None,
-        })
+            room: Room::of_opened(totals),
+        }
     }
 
     /// How many deposits are known.
@@ -101,6 +91,16 @@ impl Memory {
         ensures { IsTrue result ↔ ((0 < n) × (n ≤ length self.now.known.items)) }
     {
         0 < n && n as usize <= self.known.len()
+    }
+
+    /// The bytes of memory that a start takes which opens the register.
+    pub(crate) fn next_start(&self) -> u64 {
+        self.room.next_start()
+    }
+
+    /// Takes the memory that a start will take beyond what the process holds now, and drops it.
+    pub(crate) fn try_start(&self, alloc: Global) -> Result<(), AllocError> {
+        self.room.try_start(alloc)
     }
 
     /// The head of deposit n. A number that no deposit has is `Store`: the disk that it was read from was not sound.
@@ -123,6 +123,18 @@ impl Memory {
             → 0 < n → (d : Deposit) → slice_get list (n - 1) ≡ Some d → result ≡ d.withdrawn }
     {
         self.is_known(n) && self.known[n as usize - 1].head.withdrawn
+    }
+
+    /// How many DATA rows deposit n has.
+    pub(crate) fn row_count(&self, n: u32) -> u32
+        ensures { (dictionary : Entries) (list : List Deposit) → Agrees self.now dictionary list → 0 < n
+            → OfDeposit dictionary (sents list) n (λ file. result ≡ file.graph.rows) }
+    {
+        if self.is_known(n) {
+            self.known[n as usize - 1].size.rows
+        } else {
+            0
+        }
     }
 
     /// The numbers of a project's deposits, rising.
@@ -178,56 +190,9 @@ impl Memory {
         }
     }
 
-    /// The rows of deposit n.
-    pub(crate) fn held_rows(&self, n: u32) -> Option<&[KeptRow]>
-        ensures { (dictionary : Entries) (list : List Deposit) → Agrees self.now dictionary list
-            → IfSome result (λ rows. OfDeposit dictionary (sents list) n (λ file. rows.now ≡ kept_rows file.groups)) }
-    {
-        match &self.rows {
-            Some(held) if held.number == n => Some(held.rows.as_slice()),
-            _ => None,
-        }
-    }
-
-    /// The steps of deposit n.
-    pub(crate) fn held_graph(&self, n: u32) -> Option<&Graph>
-        ensures { (dictionary : Entries) (list : List Deposit) → Agrees self.now dictionary list
-            → IfSome result (λ graph. OfDeposit dictionary (sents list) n (HasGraph graph.now)) }
-    {
-        match &self.graph {
-            Some(held) if held.number == n => Some(&held.graph),
-            _ => None,
-        }
-    }
-
-    /// Keeps a copy of the rows that were read of deposit n, if they are small and there is memory for it.
-    pub(crate) fn note_rows(
-        &mut self,
-        alloc: Global,
-        n: u32,
-        read: &Result<Vec<KeptRow>, KeepError>,
-    )
-        ensures { Remembers self.old self.new n (λ dictionary list. IfOk read.now (λ rows.
-            OfDeposit dictionary list n (HasKeptRows rows))) }
-    {
-        if let Ok(rows) = read {
-            self.rows = small_rows(alloc, n, rows);
-        }
-    }
-
-    /// Keeps a copy of the steps that were read of deposit n, if they are few and there is memory for it.
-    pub(crate) fn note_graph(&mut self, alloc: Global, n: u32, read: &Result<Graph, KeepError>)
-        ensures { Remembers self.old self.new n (λ dictionary list. IfOk read.now (λ graph.
-            OfDeposit dictionary list n (HasGraph graph))) }
-    {
-        if let Ok(graph) = read {
-            self.graph = small_graph(alloc, n, graph);
-        }
-    }
-
     /// Keeps the row of PROJ that was read of deposit n, if it is short and there is room for it.
     pub(crate) fn note_project(&mut self, n: u32, read: &Result<Option<ProjectRow>, KeepError>)
-        ensures { Remembers self.old self.new n (λ dictionary list. IfOk read.now (λ found.
+        ensures { Remembers self.old self.new (λ dictionary list. IfOk read.now (λ found.
             OfDeposit dictionary list n (HasProjectRow found))) }
     {
         let Ok(found) = read else {
@@ -247,7 +212,7 @@ impl Memory {
 
     /// Keeps that this row of deposit n has no step, if none was read.
     pub(crate) fn note_targets(&mut self, n: u32, row: u32, read: &Result<Vec<u32>, KeepError>)
-        ensures { Remembers self.old self.new n (λ dictionary list. IfOk read.now (λ targets.
+        ensures { Remembers self.old self.new (λ dictionary list. IfOk read.now (λ targets.
             OfDeposit dictionary list n (HasTargets row targets))) }
     {
         let Ok(targets) = read else {
@@ -258,7 +223,8 @@ impl Memory {
         }
     }
 
-    /// One deposit more, which is not known yet. There is room for it from then on.
+    /// One deposit more, which is not known yet. There is room for it from then on, and there was memory enough for a
+    /// start that opens the register with it.
     pub(crate) fn make_room(
         &mut self,
         alloc: Global,
@@ -266,13 +232,16 @@ impl Memory {
         project: &Name,
         embargo: Day,
         bytes: &[u8],
+        size: Size,
     ) -> Result<Coming, AllocError>
         ensures same { length self.new.known.items ≡ length self.old.known.items }
         ensures agrees { (dictionary : Entries) (list : List Deposit) → Agrees self.old dictionary list
             → Agrees self.new dictionary list }
         ensures room { IfOk result (HasRoom self.new) }
         ensures coming { IfOk result (IsComing self.new (deposit_from firm.now project.now embargo bytes.now)) }
+        ensures size { IfOk result (λ coming. coming.known.size ≡ size) }
     {
+        self.room.with(size).try_start(alloc)?;
         let head = KeptHead {
             firm: firm.clone()?,
             project: project.clone()?,
@@ -286,6 +255,7 @@ impl Memory {
         Ok(Coming {
             known: Known {
                 head,
+                size,
                 project: None,
                 alone: None,
             },
@@ -299,7 +269,7 @@ impl Memory {
         requires few { length self.old.known.items < 999999 }
         requires room { HasRoom self.old coming }
         ensures agrees { (dictionary : Entries) (list : List Deposit) (d : Sent) → IsComing self.old d coming
-            → Agrees self.old dictionary list → Agrees self.new dictionary (list ++ unmarked d ∷ []) }
+            → IsSizeOf dictionary d coming.known.size → Agrees self.old dictionary list → Agrees self.new dictionary (list ++ unmarked d ∷ []) }
         ensures long { length self.new.known.items ≡ length self.old.known.items + 1 }
     {
         let Coming {
@@ -307,6 +277,7 @@ impl Memory {
             digest,
             numbers,
         } = coming;
+        self.room = self.room.with(known.size);
         self.known.push_reserved(known);
         self.digests.note(digest, numbers);
     }
@@ -327,10 +298,35 @@ impl Memory {
 #[derive(Drop)]
 pub(crate) struct Known {
     pub(crate) head: KeptHead,
+    pub(crate) size: Size,
     /// Its row of PROJ, if that was read.
     pub(crate) project: Option<ProjectRow>,
     /// The DATA row that was read last to have no step.
     pub(crate) alone: Option<u32>,
+}
+
+/// What is found of a register as it is examined.
+#[derive(Drop)]
+pub(crate) struct Found {
+    /// What is known of each deposit so far, in the order of their numbers. The marks are read later.
+    pub(crate) known: Vec<Known>,
+    /// The numbers of these deposits, under their digests.
+    pub(crate) digests: Digests,
+    pub(crate) dictionary_bytes: usize,
+}
+
+impl Found {
+    /// Nothing is found yet.
+    pub(crate) fn new(alloc: Global) -> Found
+        ensures known { result.known.items ≡ [] }
+        ensures digests { (digest : List ℕ) → numbers_under result.digests digest ≡ [] }
+    {
+        Found {
+            known: Vec::new(alloc),
+            digests: Digests::new(alloc),
+            dictionary_bytes: 0,
+        }
+    }
 }
 
 /// A deposit to come, for which there is room.

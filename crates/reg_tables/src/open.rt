@@ -9,7 +9,7 @@ ghost use Rattle.sqlite.specs.WalFiles.{image_at};
 ghost use Rattle.reg_tables.specs.Quiet.{StaysIfClean, StaysIfOpen};
 ghost use Rattle.reg_tables.specs.Adoption.{Adopts, AdoptsRegister, is_store_failure};
 ghost use Rattle.reg_tables.specs.declared.schema.format.Format.TheVariants.{Second};
-ghost use Rattle.reg_tables.specs.Opened.{AdoptsFiles, RefusesFiles, ShowsFiles};
+ghost use Rattle.reg_tables.specs.Opened.{AdoptsFiles, RefusesOpening, ShowsFiles};
 
 pub(crate) mod compare;
 pub(crate) mod create;
@@ -100,7 +100,7 @@ impl<F: Start> SqlKeep<FileStore<FileFrom<F>>> {
         ensures adopted { IfOk result (λ k. AdoptsFiles (image_at F.Start) k.dictionary (file_state k.connection)) }
         ensures working { IfOk result (λ k. k.has_failed ≡ false) }
         ensures refused { IfErr result (λ e.
-            IfSome e.1 (λ c. HasCleanDisk (file_state c) → RefusesFiles Second (image_at F.Start) e.0)) }
+            IfSome e.1 (λ c. HasCleanDisk (file_state c) → RefusesOpening (image_at F.Start) e.0)) }
         ensures unopened { IfErr result (λ e. e.1 ≡ None → (e.0 ≡ AdoptError.Store) ⊎ (e.0 ≡ AdoptError.NoMemory)) }
 
         // The connection that comes with a refusal: open, but after `Store`, and one that is open shows what the files

@@ -1,6 +1,6 @@
 //! The worked examples of files. Where memory wants, no answer is the wanted one.
 use ags_dict::Dictionary;
-use ags_links::{Graph, Index, Targets};
+use ags_links::{Graph, Index, Targets, step_count};
 use ags_rows::vectors::{FILE_A, FILE_B, FILE_C, MINI};
 use ags_rows::{READABLE, Scan};
 use std::alloc::{AllocError, Global};
@@ -72,11 +72,15 @@ fn tell_rows(text: &mut String, rows: &[u32]) -> Result<(), AllocError> {
     Ok(())
 }
 
-/// Tells how many rows and steps a graph has.
-fn tell_counts(text: &mut String, graph: &Graph) -> Result<(), AllocError> {
+/// Tells how many rows and steps a graph has, and how many steps were counted if that differs.
+fn tell_counts(text: &mut String, graph: &Graph, counted: usize) -> Result<(), AllocError> {
     let rows = graph.rows();
     let steps = graph.steps().len();
-    Ok(write!(text, "{rows} rows, {steps} steps")?)
+    write!(text, "{rows} rows, {steps} steps")?;
+    if counted != steps {
+        write!(text, ", {counted} counted")?;
+    }
+    Ok(())
 }
 
 /// Tells a graph's rows and steps.
@@ -126,7 +130,7 @@ fn tell_files(text: &mut String, index: &Index, row: u32) -> Result<(), AllocErr
 /// Tells what is asked.
 fn tell(alloc: Global, text: &mut String, index: &Index, ask: Ask) -> Result<(), AllocError> {
     match ask {
-        Ask::Counts => tell_counts(text, &Graph::of(alloc, index)?),
+        Ask::Counts => tell_counts(text, &Graph::of(alloc, index)?, step_count(alloc, index)?),
         Ask::Steps => tell_steps(text, &Graph::of(alloc, index)?),
         Ask::Parents(row) => tell_parents(text, index, row),
         Ask::Link(row) => tell_link(text, index, row),

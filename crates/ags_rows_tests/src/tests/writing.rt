@@ -1,8 +1,6 @@
 use crate::tests::{Read, scan};
 use ags_rows::vectors::{FILE_A, FILE_B, FILE_C, MINI};
-use ags_rows::{
-    Descriptor, Group, Row, Scan, cells, write_field, write_group, write_line, write_row,
-};
+use ags_rows::{Descriptor, Group, Row, Scan, cells, quote, write_group, write_line, write_row};
 use ags_text::{Cell, Sequence};
 use std::alloc::{AllocError, Global};
 use std::test::Fail;
@@ -287,7 +285,7 @@ fn push_fields(text: &mut Vec<u8>, alloc: Global, line: &[u8]) -> Result<(), All
 
 /// Appends a field, a row and a line, one after the other.
 fn push_spelled(text: &mut Vec<u8>, alloc: Global) -> Result<(), AllocError> {
-    write_field(text, b"a\"b")?;
+    quote(text, b"a\"b")?;
     push_fields(text, alloc, b"\"a\" , \"b\"")?;
     write_line(
         text,

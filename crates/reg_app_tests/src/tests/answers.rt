@@ -5,76 +5,74 @@ ghost use Rattle.std.specs.Prelude.{◌≡◌, false};
 use ags_cli::Watched;
 use ags_dict::Dictionary;
 use ags_rows::vectors::{FILE_A, FILE_B, MINI};
-use reg_cli::{Asker, Session, ask_deposit, ask_extract, ask_list, ask_withdraw, session_of};
+use reg_cli::{Action, Asker, Session, Token, ask_desk, ask_of, session_of};
 use reg_desk::Desk;
 use reg_policy::vectors::{CALLERS, POLICY};
-use reg_policy::{Callers, Day, Policy};
+use reg_policy::{Callers, Policy, Verb};
 use reg_store::{Keep, PlainKeep};
 use std::alloc::Global;
 use std::test::Fail;
 
-static DELTA: Asker<'static> = Asker {
+pub static DELTA: Asker<'static> = Asker {
     store: "",
     policy: "",
     callers: "",
-    token: "t-delta",
+    token: Token::Given("t-delta"),
     project: "N1",
     day: Some("2024-05-01"),
     shows_progress: false,
 };
-
-/// What is asked, of a deposit by its file or by its number.
-enum Asks {
-    Deposit(&'static [u8]),
-    List,
-    Extract(u32),
-    Withdraw(u32),
-}
 
 /// A policy that permits everything.
 const ALL: &str = "[[rule]]\nnumber = 1\neffect = \"permit\"\n";
 
 const RECEIPT: &[u8] = b"receipt 1 2024-06-01\n";
 
-/// Requests to a register that has room for one deposit, what is printed, and the status. The full register counts
-/// the deposit that is withdrawn, and so does the file that is sent again.
-static OF_ONE: [(Asks, &[u8], u8); 11] = [
-    (Asks::Withdraw(1), b"unknown\n", 3),
-    (Asks::Deposit(FILE_A), RECEIPT, 0),
-    (Asks::Deposit(FILE_B), b"full\n", 5),
-    (Asks::List, b"1 Delta 2024-06-01\n", 0),
-    (Asks::Extract(1), FILE_A, 0),
-    (Asks::Withdraw(1), b"withdrawn 1\n", 0),
-    (Asks::Withdraw(1), b"withdrawn 1\n", 0),
-    (Asks::List, b"", 0),
-    (Asks::Extract(1), b"unknown\n", 3),
-    (Asks::Deposit(FILE_B), b"full\n", 5),
-    (Asks::Deposit(FILE_A), RECEIPT, 0),
+/// Files and numbers that commands ask for, in a register that has room for one deposit, what is printed, and the
+/// status. The full register counts the deposit that is withdrawn, and so does the file that is sent again.
+#[rattlefmt::skip]
+static OF_ONE: [(Verb, &[u8], &[u8], u8); 11] = [
+    (Verb::Withdraw, b"", b"unknown\n", 3),
+    (Verb::Deposit, FILE_A, RECEIPT, 0),
+    (Verb::Deposit, FILE_B, b"full\n", 5),
+    (Verb::List, b"", b"1 Delta 2024-06-01\n", 0),
+    (Verb::Extract, b"", FILE_A, 0),
+    (Verb::Withdraw, b"", b"withdrawn 1\n", 0),
+    (Verb::Withdraw, b"", b"withdrawn 1\n", 0),
+    (Verb::List, b"", b"", 0),
+    (Verb::Extract, b"", b"unknown\n", 3),
+    (Verb::Deposit, FILE_B, b"full\n", 5),
+    (Verb::Deposit, FILE_A, RECEIPT, 0),
 ];
 
 /// The same under a policy without a rule that permits a withdrawal.
-static OF_NO_RULE: [(Asks, &[u8], u8); 2] = [
-    (Asks::Deposit(FILE_A), RECEIPT, 0),
-    (Asks::Withdraw(1), b"denied 0\n", 2),
+static OF_NO_RULE: [(Verb, &[u8], &[u8], u8); 2] = [
+    (Verb::Deposit, FILE_A, RECEIPT, 0),
+    (Verb::Withdraw, b"", b"denied 0\n", 2),
 ];
 
-/// Whether this is printed where this is asked, and this the status.
+/// Whether a request, for deposit 1 if it names one, prints this and ends with this status.
 fn answers<K: Keep>(
     alloc: Global,
     desk: &mut Desk<K>,
     session: &Session<'_>,
-    row: &(Asks, &[u8], u8),
+    row: &(Verb, &[u8], &[u8], u8),
 ) -> Result<bool, Fail> {
-    let (asks, want, ended) = row;
-    let embargo = Day::read("2024-06-01").ok_or("day")?;
-    let mut printed = Vec::new(alloc);
-    let out = &mut Watched::new(&mut printed);
-    let asked = match asks {
-        Asks::Deposit(file) => ask_deposit(alloc, desk, session, embargo, file, out),
-        Asks::List => ask_list(alloc, desk, session, out),
-        Asks::Extract(number) => ask_extract(alloc, desk, session, *number, &[], out),
-        Asks::Withdraw(number) => ask_withdraw(alloc, desk, session, *number, out),
+    let (verb, file, want, ended) = row;
+    let action = Action {
+        verb: *verb,
+        embargo: Some("2024-06-01"),
+        groups: None,
+        number: Some("1"),
+        file: None,
     };
+    let Ok(ask) = ask_of(&action, session.day) else {
+        return Err(Fail::from("asked"));
+    };
+    let groups = ask.groups(alloc)?;
+    let request = ask.request(session.caller, &session.project, session.day, file, &groups);
+    let mut printed = Vec::new(alloc);
+    let asked = ask_desk(alloc, desk, &request, &mut Watched::new(&mut printed));
     Ok((asked.unwrap_or(9) == *ended) & (printed.as_slice() == *want))
 }
 
@@ -83,7 +81,7 @@ fn all_answered<K: Keep>(
     alloc: Global,
     desk: &mut Desk<K>,
     session: &Session<'_>,
-    rows: &[(Asks, &[u8], u8)],
+    rows: &[(Verb, &[u8], &[u8], u8)],
 ) -> Result<bool, Fail> {
     for row in rows {
         if !answers(alloc, desk, session, row)? {
@@ -99,7 +97,7 @@ fn keep_answers<K: Keep + Drop>(
     keep: K,
     policy: Policy,
     session: &Session<'_>,
-    rows: &[(Asks, &[u8], u8)],
+    rows: &[(Verb, &[u8], &[u8], u8)],
 ) -> Result<bool, Fail>
     requires { K.has_failed keep ≡ false }
 {
@@ -111,7 +109,7 @@ fn register_answers(
     alloc: Global,
     session: &Session<'_>,
     policy: &str,
-    rows: &[(Asks, &[u8], u8)],
+    rows: &[(Verb, &[u8], &[u8], u8)],
 ) -> Result<bool, Fail> {
     let policy = Policy::read(alloc, policy)?;
     let dictionary = Dictionary::read(alloc, MINI)?;
@@ -122,7 +120,7 @@ fn register_answers(
 #[test]
 fn answers_are_printed(rt: HostRuntime) -> Result<(), Fail> {
     let callers = Callers::read(rt.alloc(), CALLERS)?;
-    let Ok(session) = session_of(rt.alloc(), &callers, &DELTA, None) else {
+    let Ok(session) = session_of(rt.alloc(), &callers, b"t-delta", &DELTA, None) else {
         return Err(Fail::from("session"));
     };
     assert!(rt; register_answers(rt.alloc(), &session, ALL, &OF_ONE)?);

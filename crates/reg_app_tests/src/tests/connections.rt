@@ -1,12 +1,10 @@
 //! Connections that are served, over loopback.
 
-ghost use Rattle.std.specs.Prelude.{◌≡◌, false};
-
 use super::{Failing, failing_after};
 use ags_cli::Watched;
 use ags_dict::Dictionary;
 use ags_rows::vectors::{FILE_A, MINI};
-use reg_app::{Log, Serving, serve_on};
+use reg_app::{Listener, Log, Look, Reload, Running, Serving, serve_on};
 use reg_desk::Desk;
 use reg_policy::vectors::{CALLERS, POLICY};
 use reg_policy::{Callers, Policy};
@@ -139,10 +137,10 @@ static CASES: [Case; 4] = [
         ],
         count: 4,
         printed: b"200\n404\n413\n0\n",
-        logged: b"2024-05-01T10:20:30Z Delta contractor POST /v1/projects/N1/deposits 200 656 125 0\n\
-2024-05-02T10:20:30Z Delta contractor GET /v1/projects/N1/deposits/999 404 76 116 0\n\
-2024-05-03T10:20:30Z Gamma contractor POST /v1/projects/N1/deposits 413 99 126 0\n\
-2024-05-04T10:20:30Z - - - - 0 0 0 0\n",
+        logged: b"2024-05-01T10:20:30Z Delta contractor POST /v1/projects/N1/deposits 200 656 125 0 1 - - 2d20076c\n\
+2024-05-02T10:20:30Z Delta contractor GET /v1/projects/N1/deposits/999 404 76 116 0 999 - - 2d20076c\n\
+2024-05-03T10:20:30Z Gamma contractor POST /v1/projects/N1/deposits 413 99 126 0 - - - d7ff6562\n\
+2024-05-04T10:20:30Z - - - - 0 0 0 0 - - - -\n",
     },
     // Each is served on the day of its own, and a log has no token. A peer that stops is cut.
     Case {
@@ -171,10 +169,10 @@ static CASES: [Case; 4] = [
         ],
         count: 4,
         printed: b"200\n200\n404\nfault\n",
-        logged: b"2024-05-01T10:20:30Z Delta contractor POST /v1/projects/N1/deposits 200 637 125 0\n\
-2024-05-02T10:20:30Z Foxtrot contractor POST /v1/projects/N1/deposits 200 639 125 0\n\
-2024-05-03T10:20:30Z Echo consultant GET /v1/d\\xc3\\xa9p\\xc3\\xb4ts\\x5c 404 74 117 0\n\
-2024-05-04T10:20:30Z Delta contractor POST /v1/projects/N1/deposits fault 94 0 0\n",
+        logged: b"2024-05-01T10:20:30Z Delta contractor POST /v1/projects/N1/deposits 200 637 125 0 1 - - 2d20076c\n\
+2024-05-02T10:20:30Z Foxtrot contractor POST /v1/projects/N1/deposits 200 639 125 0 2 - - 47327daa\n\
+2024-05-03T10:20:30Z Echo consultant GET /v1/d\\xc3\\xa9p\\xc3\\xb4ts\\x5c 404 74 117 0 - - - 2ba50d83\n\
+2024-05-04T10:20:30Z Delta contractor POST /v1/projects/N1/deposits fault 94 0 0 - - - 2d20076c\n",
     },
     // A peer that has sent more than is read has the whole reply, and then its end.
     Case {
@@ -206,9 +204,9 @@ static CASES: [Case; 4] = [
         }],
         count: 3,
         printed: b"404\nfault\nfault\n",
-        logged: b"2024-05-01T10:20:30Z Delta contractor GET /v1/projects/N1/deposits/999 404 76 116 0\n\
-2024-05-02T10:20:30Z - - - - fault 0 0 0\n\
-2024-05-03T10:20:30Z - - - - fault 0 0 0\n",
+        logged: b"2024-05-01T10:20:30Z Delta contractor GET /v1/projects/N1/deposits/999 404 76 116 0 999 - - 2d20076c\n\
+2024-05-02T10:20:30Z - - - - fault 0 0 0 - - - -\n\
+2024-05-03T10:20:30Z - - - - fault 0 0 0 - - - -\n",
     },
 ];
 
@@ -308,58 +306,74 @@ impl Clock for Calendar {
     }
 }
 
+/// A sign that never changes.
+#[derive(Drop)]
+struct Unchanged;
+
+impl<'w, L> Reload<'w, L> for Unchanged {
+    fn look(&mut self, _alloc: Global) -> Look<'w, L> {
+        Look::Same
+    }
+}
+
 /// Serves so many connections by a clock, with a second of patience, from an empty store in memory: the status of the
 /// run.
 fn serve_some<C: Clock, W: Write, L: Write + Drop>(
     alloc: Global,
     clock: &C,
-    listener: &TcpListener,
-    connections: u32,
+    listener: &Listener,
+    connections: u64,
     out: &mut W,
-    log: &mut L,
+    log: L,
 ) -> Result<u8, Fail> {
     let callers = Callers::read(alloc, CALLERS)?;
     let policy = Policy::read(alloc, POLICY)?;
+    let log = Some(Log::new(alloc, log, None)?);
+    let dictionary = Dictionary::read(alloc, MINI)?;
+    let keep = PlainKeep::new(alloc, dictionary);
+    let desk = Desk::new(keep, policy);
+    let running = Running { desk, callers, log };
+    Ok(serve_running(alloc, clock, listener, connections, running, out))
+}
+
+/// Serves what runs: the status of the run.
+fn serve_running<K: Keep + Drop, C: Clock, W: Write, L: Write + Drop>(
+    alloc: Global,
+    clock: &C,
+    listener: &Listener,
+    connections: u64,
+    running: Running<K, L>,
+    out: &mut W,
+) -> u8 {
     let serving = Serving {
-        callers: &callers,
         day: None,
         patience: Duration::from_secs(1),
         connections,
         ends_on_failure: false,
     };
-    let mut log = Some(Log::new(alloc, log)?);
-    let dictionary = Dictionary::read(alloc, MINI)?;
-    let keep = PlainKeep::new(alloc, dictionary);
-    Ok(serve_keep(
-        alloc, clock, listener, &serving, keep, policy, out, &mut log,
-    ))
-}
-
-/// Serves from a store: the status of the run.
-fn serve_keep<K: Keep + Drop, C: Clock, W: Write, L: Write + Drop>(
-    alloc: Global,
-    clock: &C,
-    listener: &TcpListener,
-    serving: &Serving<'_>,
-    keep: K,
-    policy: Policy,
-    out: &mut W,
-    log: &mut Option<Log<L>>,
-) -> u8
-    requires { K.has_failed keep ≡ false }
-{
-    let desk = &mut Desk::new(keep, policy);
-    let mut out = Watched::new(out);
-    match serve_on(alloc, clock, listener, desk, serving, &mut out, log) {
+    let mut said = Vec::new(alloc);
+    let err = &mut Watched::new(&mut said);
+    let out = &mut Watched::new(out);
+    let (served, _keep) = serve_on(
+        alloc,
+        clock,
+        listener,
+        &serving,
+        running,
+        &mut Unchanged,
+        out,
+        err,
+    );
+    match served {
         Ok(()) => 0,
         Err(fault) => fault.status(),
     }
 }
 
 /// Whether a listener is served with status 0 and the lines of a case.
-fn prints(alloc: Global, listener: &TcpListener, case: &Case) -> Result<bool, Fail> {
+fn prints(alloc: Global, listener: &Listener, case: &Case) -> Result<bool, Fail> {
     let (mut printed, mut logged) = (Vec::new(alloc), Vec::new(alloc));
-    let count = case.count;
+    let count = u64::from(case.count);
     let status = serve_some(
         alloc,
         &calendar_from_may(),
@@ -375,7 +389,7 @@ fn prints(alloc: Global, listener: &TcpListener, case: &Case) -> Result<bool, Fa
 /// Whether a listener to which these are connected is served as a case says.
 fn holds(
     alloc: Global,
-    listener: &TcpListener,
+    listener: &Listener,
     streams: &[TcpStream],
     case: &Case,
 ) -> Result<bool, Fail> {
@@ -389,7 +403,12 @@ fn holds(
 fn is_served(rt: &HostRuntime, case: &Case) -> Result<bool, Fail> {
     let listener = listening(rt, case.waits)?;
     let streams = all_connected(rt, &listener, case.peers)?;
-    holds(rt.alloc(), &listener, streams.as_slice(), case)
+    holds(
+        rt.alloc(),
+        &Listener::Port(listener),
+        streams.as_slice(),
+        case,
+    )
 }
 
 #[test]
@@ -403,7 +422,7 @@ fn connections_are_served(rt: HostRuntime) -> Result<(), Fail> {
 /// Serves two connections of a listener that has none. Status 6 is wanted where a line fails.
 fn has_ended(
     alloc: Global,
-    listener: &TcpListener,
+    listener: &Listener,
     out: &mut Failing<'_>,
     log: &mut Failing<'_>,
     fails: bool,
@@ -414,7 +433,7 @@ fn has_ended(
 
 /// Whether a run is right whose write or flush of a line after `calls` others fails: two connections that fail take
 /// four.
-fn line_fails(alloc: Global, listener: &TcpListener, calls: usize) -> Result<bool, Fail> {
+fn line_fails(alloc: Global, listener: &Listener, calls: usize) -> Result<bool, Fail> {
     let mut out = failing_after(alloc, b"", 100, calls);
     let mut log = failing_after(alloc, b"", 100, 9);
     let has_ended = has_ended(alloc, listener, &mut out, &mut log, calls < 4)?;
@@ -422,19 +441,19 @@ fn line_fails(alloc: Global, listener: &TcpListener, calls: usize) -> Result<boo
 }
 
 /// The same of a line of the log.
-fn logged_line_fails(alloc: Global, listener: &TcpListener, calls: usize) -> Result<bool, Fail> {
+fn logged_line_fails(alloc: Global, listener: &Listener, calls: usize) -> Result<bool, Fail> {
     let mut out = failing_after(alloc, b"", 100, 9);
     let mut log = failing_after(alloc, b"", 100, calls);
     let has_ended = has_ended(alloc, listener, &mut out, &mut log, calls < 4)?;
     let lines =
-        b"2024-05-01T10:20:30Z - - - - fault 0 0 0\n2024-05-02T10:20:30Z - - - - fault 0 0 0\n";
+        b"2024-05-01T10:20:30Z - - - - fault 0 0 0 - - - -\n2024-05-02T10:20:30Z - - - - fault 0 0 0 - - - -\n";
     Ok(has_ended & log.has(calls < 4, lines))
 }
 
 /// Each write and flush of a line fails once, of those that are printed and of those of the log: the run ends with it.
 #[test]
 fn a_line_that_is_not_written(rt: HostRuntime) -> Result<(), Fail> {
-    let listener = listening(&rt, false)?;
+    let listener = Listener::Port(listening(&rt, false)?);
     for calls in 0..6 {
         assert!(rt; line_fails(rt.alloc(), &listener, calls)?);
         assert!(rt; logged_line_fails(rt.alloc(), &listener, calls)?);

@@ -5,7 +5,7 @@ ghost use Rattle.std.specs.Vec.{vec_capacity};
 ghost use Rattle.reg_desk.specs.Asked.{asked};
 ghost use Rattle.reg_desk.specs.Serving.{is_failed};
 ghost use Rattle.reg_desk.specs.Running.{ReceiptsSurviveIfSound, RunsIfSound};
-ghost use Rattle.reg_desk.specs.Desks.{AnsweredBy, AreAnsweredBy, IsCleanText, IsSameAnswer};
+ghost use Rattle.reg_desk.specs.Desks.{AnsweredBy, AreAnsweredBy, EndsARun, IsCleanText, IsSameAnswer};
 
 use crate::answer::Answer;
 use crate::desk::Desk;
@@ -19,6 +19,7 @@ impl<K: Keep> Desk<K> {
     /// of memory.
     pub fn answer(&mut self, alloc: Global, request: &Request<'_>) -> Answer
         ensures answered { AnsweredBy K.Keep self.old (asked request.entry.now) result self.new }
+        ensures run { EndsARun K.Keep self.old (asked request.entry.now) result self.new }
         ensures clean { K.is_sound self.new.keep → IsCleanText K.Keep self.old.keep result }
         ensures same { K.is_sound self.new.keep
             → IsSameAnswer K.Keep self.old.policy self.old.keep (asked request.entry.now) result }

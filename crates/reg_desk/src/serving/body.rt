@@ -1,50 +1,37 @@
 //! Bodies that a caller sends: why they are refused, and the check of one.
 
-ghost use Rattle.std.specs.Prelude.{◌≡◌, ◌⊎◌, List, false};
+ghost use Rattle.std.specs.Prelude.{◌≡◌, ◌≢◌, ◌⊎◌, [], List};
 ghost use Rattle.ags_rows.specs.declared.finding.Finding.{Finding};
-ghost use Rattle.reg_desk.specs.Asked.{check as asks_check};
-ghost use Rattle.reg_desk.specs.Serving.{IsCleanCheck, IsRefusal, Serves};
+ghost use Rattle.reg_desk.specs.Serving.{IsCleanCheck, IsRefusal};
 
 use crate::answer::Answer;
-use crate::serving::decide_request;
-use ags_check::{CheckError, check};
+use ags_check::{CheckError, findings};
 use ags_dict::Dictionary;
-use ags_rows::LIMIT;
-use reg_policy::{Caller, Day, Decision, Name, Policy, Verb};
-use reg_store::Keep;
+use ags_rows::{FindingList, LIMIT};
 use std::alloc::Global;
 
-/// What a check is answered.
-#[tactic(none)]
-pub(super) fn serve_check<K: Keep>(
-    alloc: Global,
-    keep: &mut K,
-    policy: &Policy,
-    caller: &Caller,
-    project: &Name,
-    bytes: &[u8],
-    day: Day,
-) -> Answer
-    requires { K.has_failed keep.old ≡ false }
-    ensures { Serves K.Keep policy.now
-        (asks_check caller.now project.now bytes.now day) keep.old keep.new result }
-{
-    match decide_request(policy, caller, project, Verb::Check, day) {
-        Decision::Deny(rule) => Answer::Denied(rule),
-        Decision::Permit(_rule) => check_body(alloc, keep.dictionary(), bytes),
-    }
-}
-
 /// What the check of a body is answered: Clean where it is not too large and has no finding.
-fn check_body(alloc: Global, dictionary: &Dictionary, bytes: &[u8]) -> Answer
+pub(super) fn check_body(alloc: Global, dictionary: &Dictionary, bytes: &[u8]) -> Answer
     ensures { IsRefusal dictionary.now bytes.now result ⊎ IsCleanCheck dictionary.now bytes.now result }
 {
     if bytes.len() > LIMIT {
         return Answer::TooLarge;
     }
-    match check(alloc, dictionary, bytes) {
-        Err(error) => refusal_of(error),
-        Ok(_checked) => Answer::Clean,
+    match findings(alloc, dictionary, bytes) {
+        Err(_) => Answer::NoMemory,
+        Ok(found) => report(found),
+    }
+}
+
+/// The answer to a body of these findings: Clean where there are none.
+fn report(found: FindingList) -> Answer
+    ensures none { found ≡ [] → result ≡ Answer.Clean }
+    ensures some { found ≢ [] → result ≡ Answer.Findings found }
+{
+    if found.is_empty() {
+        Answer::Clean
+    } else {
+        Answer::Findings(found)
     }
 }
 

@@ -3,44 +3,21 @@
 ghost use Rattle.std.specs.Prelude.{◌≡◌, ◌≢◌, ◌≤◌, None, Err, IfOk, IfSome, false, length};
 ghost use Rattle.reg_store.specs.Deposit.{sents};
 ghost use Rattle.reg_store.specs.Keep.{fails};
-ghost use Rattle.reg_desk.specs.Asked.{deposit as asks_deposit};
 ghost use Rattle.reg_desk.specs.Machine.{first_equal};
-ghost use Rattle.reg_desk.specs.Serving.{OnlyReads, Serves, ServesPermittedDeposit};
+ghost use Rattle.reg_desk.specs.Serving.{OnlyReads, ServesPermittedDeposit};
 
 use crate::answer::Answer;
 use crate::serving::body::refusal_of;
-use crate::serving::{decide_request, refused};
+use crate::serving::refused;
 use ags_check::{Checked, check};
 use ags_rows::LIMIT;
-use reg_policy::{Caller, Day, Decision, Name, Policy, Verb};
+use reg_policy::{Caller, Day, Name};
 use reg_store::{Keep, KeepError};
 use std::alloc::Global;
 
-/// What a deposit is answered.
-#[tactic(none)]
-pub(super) fn serve_deposit<K: Keep>(
-    alloc: Global,
-    keep: &mut K,
-    policy: &Policy,
-    caller: &Caller,
-    project: &Name,
-    embargo: Day,
-    bytes: &[u8],
-    day: Day,
-) -> Answer
-    requires { K.has_failed keep.old ≡ false }
-    ensures { Serves K.Keep policy.now
-        (asks_deposit caller.now project.now embargo bytes.now day) keep.old keep.new result }
-{
-    match decide_request(policy, caller, project, Verb::Deposit, day) {
-        Decision::Deny(rule) => Answer::Denied(rule),
-        Decision::Permit(_rule) => serve_permitted(alloc, keep, caller, project, embargo, bytes),
-    }
-}
-
 /// What a deposit is answered that the policy permits.
 #[tactic(none)]
-fn serve_permitted<K: Keep>(
+pub(super) fn serve_deposit<K: Keep>(
     alloc: Global,
     keep: &mut K,
     caller: &Caller,

@@ -5,19 +5,19 @@ ghost use Rattle.reg_store.specs.Keep.{fails};
 ghost use Rattle.reg_desk.specs.Asked.{extract as asks_extract, names_in};
 ghost use Rattle.reg_desk.specs.Extract.{IsOfRows};
 ghost use Rattle.reg_desk.specs.Machine.{IsDrawnFrom, held};
-ghost use Rattle.reg_desk.specs.Serving.{IsAnswerOfRows, OfHeld, OnlyReads, Serves, terms_at, text_answer};
+ghost use Rattle.reg_desk.specs.Serving.{IsAnswerOfRows, OfHeld, OnlyReads, ServesPermitted, terms_at, text_answer};
 ghost use Rattle.reg_desk.specs.View.{DrawsFile, IsViewOf};
 
 use crate::answer::Answer;
-use crate::serving::{are_equal_names, decide_request, refused};
+use crate::serving::{are_equal_names, refused};
 use crate::view::{Look, extract};
 use ags_links::Graph;
 use ags_text::Sequence;
-use reg_policy::{Caller, Day, Decision, Name, Policy, Verb};
+use reg_policy::{Caller, Day, Name, Policy};
 use reg_store::{Keep, KeepError, KeptRow};
 use std::alloc::Global;
 
-/// What an extract is answered.
+/// What an extract is answered that the policy permits.
 #[tactic(none)]
 pub(super) fn serve_extract<K: Keep>(
     alloc: Global,
@@ -30,14 +30,10 @@ pub(super) fn serve_extract<K: Keep>(
     day: Day,
 ) -> Answer
     requires { K.has_failed keep.old ≡ false }
-    ensures serves { Serves K.Keep policy.now
+    ensures serves { ServesPermitted K.Keep policy.now
         (asks_extract caller.now project.now number (names_in groups.now) day) keep.old keep.new result }
     ensures rows { IsAnswerOfRows result }
 {
-    match decide_request(policy, caller, project, Verb::Extract, day) {
-        Decision::Deny(rule) => return Answer::Denied(rule),
-        Decision::Permit(_rule) => {}
-    }
     match draw(alloc, keep, policy, caller, project, number, groups, day) {
         Err(error) => refused(error),
         Ok(None) => Answer::Unknown,

@@ -5,19 +5,19 @@ ghost use Rattle.reg_store.specs.Keep.{fails};
 ghost use Rattle.reg_store.specs.Deposit.{Deposit};
 ghost use Rattle.reg_desk.specs.Asked.{listing as asks_listing};
 ghost use Rattle.reg_desk.specs.Machine.{IsListing, held};
-ghost use Rattle.reg_desk.specs.Serving.{IsLineFor, OfHeld, OnlyReads, Serves, terms_at};
+ghost use Rattle.reg_desk.specs.Serving.{IsLineFor, OfHeld, OnlyReads, ServesPermitted, terms_at};
 ghost use Rattle.reg_desk.specs.View.{IsOpen, Sees, is_only};
 
 use crate::answer::{Answer, Listed};
 use crate::serving::drawing::read_view;
-use crate::serving::{decide_request, refused};
+use crate::serving::refused;
 use crate::view::{Look, opens, sees};
 use ags_text::Sequence;
-use reg_policy::{Caller, Day, Decision, Name, Policy, Verb};
+use reg_policy::{Caller, Day, Name, Policy};
 use reg_store::{Keep, KeepError};
 use std::alloc::Global;
 
-/// What a list is answered.
+/// What a list is answered that the policy permits.
 #[tactic(none)]
 pub(super) fn serve_listing<K: Keep>(
     alloc: Global,
@@ -28,12 +28,8 @@ pub(super) fn serve_listing<K: Keep>(
     day: Day,
 ) -> Answer
     requires { K.has_failed keep.old ≡ false }
-    ensures { Serves K.Keep policy.now (asks_listing caller.now project.now day) keep.old keep.new result }
+    ensures { ServesPermitted K.Keep policy.now (asks_listing caller.now project.now day) keep.old keep.new result }
 {
-    match decide_request(policy, caller, project, Verb::List, day) {
-        Decision::Deny(rule) => return Answer::Denied(rule),
-        Decision::Permit(_rule) => {}
-    }
     match lines_of(alloc, keep, policy, caller, project, day) {
         Err(error) => refused(error),
         Ok(lines) => Answer::Listing(Sequence::from_vec(lines)),

@@ -1,34 +1,29 @@
 //! A withdrawal: a firm's own deposit is marked, and stays kept.
 
-ghost use Rattle.std.specs.Prelude.{◌≡◌, ◌≢◌, false, Err, IfOk};
+ghost use Rattle.std.specs.Prelude.{◌≡◌, ◌≢◌, ℤ, List, false, Err, IfOk};
+ghost use Rattle.reg_policy.specs.declared.rule.Rule.{Rule};
 ghost use Rattle.reg_store.specs.Keep.{fails};
 ghost use Rattle.reg_desk.specs.Asked.{withdraw as asks_withdraw};
 ghost use Rattle.reg_desk.specs.Machine.{held};
-ghost use Rattle.reg_desk.specs.Serving.{OnlyReads, Serves, mark_of};
+ghost use Rattle.reg_desk.specs.Serving.{OnlyReads, ServesPermitted, mark_of};
 
 use crate::answer::Answer;
-use crate::serving::{are_equal_names, decide_request, refused};
-use reg_policy::{Caller, Day, Decision, Name, Policy, Verb};
+use crate::serving::{are_equal_names, refused};
+use reg_policy::{Caller, Name};
 use reg_store::{Keep, KeepError};
 
-/// What a withdrawal is answered.
+/// What a withdrawal is answered that the policy permits, under whichever rules and on whichever day.
 #[tactic(none)]
 pub(super) fn serve_withdraw<K: Keep>(
     keep: &mut K,
-    policy: &Policy,
     caller: &Caller,
     project: &Name,
     number: u32,
-    day: Day,
 ) -> Answer
     requires { K.has_failed keep.old ≡ false }
-    ensures { Serves K.Keep policy.now
+    ensures { (rules : List Rule) (day : ℤ) → ServesPermitted K.Keep rules
         (asks_withdraw caller.now project.now number day) keep.old keep.new result }
 {
-    match decide_request(policy, caller, project, Verb::Withdraw, day) {
-        Decision::Deny(rule) => return Answer::Denied(rule),
-        Decision::Permit(_rule) => {}
-    }
     match own_mark(keep, caller, project, number) {
         Err(error) => refused(error),
         Ok(None) => Answer::Unknown,

@@ -18,10 +18,19 @@ use reg_store::{Keep, KeepError, Kept, KeptHead, KeptRow, PlainKeep, ProjectRow}
 use std::alloc::Global;
 use std::mem::swap;
 
-/// A store in memory that gives a text in place of one line of a file. It answers only the calls that an extract makes.
+/// What is changed of a row.
+#[derive(Clone, Copy)]
+enum Part {
+    Line,
+    Group,
+}
+
+/// A store in memory that gives a text in place of one line of a file, or of the name of its group. It answers only the
+/// calls that an extract makes.
 #[derive(Drop)]
 struct Junked {
     keep: PlainKeep,
+    part: Part,
     place: usize,
     text: Bytes,
 }
@@ -33,10 +42,13 @@ fn has(keep: &PlainKeep, n: u32) -> bool
     0 < n && n <= keep.count()
 }
 
-/// Puts the text in place of the line there.
-fn put(rows: &mut [KeptRow], place: usize, text: &mut Bytes) {
+/// Puts the text in place of this part of the row there.
+fn put(rows: &mut [KeptRow], part: Part, place: usize, text: &mut Bytes) {
     if let Some(row) = rows.get_mut(place) {
-        swap(&mut row.line, text);
+        match part {
+            Part::Line => swap(&mut row.line, text),
+            Part::Group => swap(&mut row.group, text),
+        }
     }
 }
 
@@ -103,7 +115,7 @@ impl Keep for Junked {
             return Err(KeepError::NoMemory);
         }
         let mut rows = self.keep.rows(n)?;
-        put(&mut rows, self.place, &mut self.text);
+        put(&mut rows, self.part, self.place, &mut self.text);
         Ok(rows)
     }
 
@@ -158,17 +170,19 @@ fn asked<K: Keep + Drop>(alloc: Global, keep: K, request: &Request) -> Option<(K
     Some((desk.into_keep(), answer))
 }
 
-/// What an extract of the first file is answered, where line `place` of it is the text.
+/// What an extract of the first file is answered, where this part of line `place` of it is the text.
 fn extracted(
     alloc: Global,
     deposit: &Request,
     extract: &Request,
+    part: Part,
     place: usize,
     text: &[u8],
 ) -> Option<Answer> {
     let (keep, _receipt) = asked(alloc, memory_of(alloc, MOST)?, deposit)?;
     let junked = Junked {
         keep,
+        part,
         place,
         text: Sequence::from_vec(Vec::from_slice(alloc, text).ok()?),
     };
@@ -176,16 +190,15 @@ fn extracted(
     Some(answer)
 }
 
-/// Of how many lines of the first file the store fails where they are this text, of 30 places; none where another line
-/// changes the answer.
-fn failures_of(alloc: Global, requests: &[Request], text: &[u8]) -> Option<usize> {
+/// Of how many lines of the first file the store fails where this part of them is this text, of 30 places.
+fn failures_of(alloc: Global, requests: &[Request], part: Part, text: &[u8]) -> Option<usize> {
     let [deposit, extract] = requests else {
         return None;
     };
     let mut failed = 0usize;
     for place in 0..30 {
-        match extracted(alloc, deposit, extract, place, text)? {
-            Answer::StoreFailed => failed = failed.saturating_add(usize::from(place == failed)),
+        match extracted(alloc, deposit, extract, part, place, text)? {
+            Answer::StoreFailed => failed = failed.saturating_add(1),
             Answer::Text(_) => {}
             _ => return None,
         }
@@ -206,19 +219,20 @@ fn failures_by_delta(
     alloc: Global,
     callers: &Callers,
     project: &Name,
+    part: Part,
     text: &[u8],
 ) -> Option<usize> {
     match two_of(callers, b"t-delta", b"t-echo") {
-        Some((delta, _echo, day)) => failures_of(alloc, &pair_of(delta, project, day), text),
+        Some((delta, _echo, day)) => failures_of(alloc, &pair_of(delta, project, day), part, text),
         None => None,
     }
 }
 
 /// The same where callers and project are read.
-fn failures(alloc: Global, text: &[u8]) -> Option<usize> {
+fn failures(alloc: Global, part: Part, text: &[u8]) -> Option<usize> {
     let callers = Callers::read(alloc, CALLERS).ok()?;
     let project = Name::read(alloc, "N1").ok()?;
-    failures_by_delta(alloc, &callers, &project, text)
+    failures_by_delta(alloc, &callers, &project, part, text)
 }
 
 /// Each of the 26 lines is read before an extract shows it: header rows and rows of definition groups too.
@@ -226,6 +240,27 @@ fn failures(alloc: Global, text: &[u8]) -> Option<usize> {
 fn lines_that_are_none(rt: HostRuntime) {
     let alloc = rt.alloc();
     for text in [b"junk".as_slice(), b"", b"\"DATA\",\"a\"\r\n\"DATA\",\"b\""] {
-        assert!(rt; failures(alloc, text) == Some(26));
+        assert!(rt; failures(alloc, Part::Line, text) == Some(26));
     }
+}
+
+/// Each of these is the line of a row in one group of five, and of none elsewhere: of the 5 GROUP rows, the 5 HEADING
+/// rows and the 6 DATA rows the store fails for 15. The 10 other header rows are not read as rows of their kind.
+#[test]
+fn rows_of_another_kind(rt: HostRuntime) {
+    let alloc = rt.alloc();
+    let texts = [
+        b"\"DATA\",\"a\"".as_slice(),
+        b"\"GROUP\",\"LOCA\"",
+        b"\"HEADING\",\"a\"",
+    ];
+    for text in texts {
+        assert!(rt; failures(alloc, Part::Line, text) == Some(15));
+    }
+}
+
+/// A DATA row that is kept under the name of another group: five of the six, since one is in this group.
+#[test]
+fn rows_of_another_group(rt: HostRuntime) {
+    assert!(rt; failures(rt.alloc(), Part::Group, b"UNIT") == Some(5));
 }

@@ -1,13 +1,10 @@
-//! Cases that meet the premises of the laws on extracts and hidden rows, over each store. All is asked on 2024-06-01.
+//! Cases that meet the premises of the laws on extracts and hidden rows, over each store.
 
-use super::bodies::{A, B, B_SHOWN, B_TESTED, B_WETTER};
+use super::bodies::{A, B, B_LINKED, B_SHOWN, B_TESTED, B_WETTER, C};
 use super::examples::{FIRST, LISTED, MOST, SECOND, UNTIL};
-use super::requests::{deposit_of, extract_of, list_of, two_of};
-use super::wanted::count_wanted;
-use super::{Ask, Body, Over, Play, Step, Want, holds, plays};
-use ags_rows::vectors::FILE_A;
-use reg_desk::{Desk, Request};
-use reg_policy::{Caller, Callers, Day, Name};
+use super::{Ask, Body, Over, Play, Step, Want, hold, holds, plays};
+use reg_desk::Desk;
+use reg_policy::{Callers, Name};
 use reg_store::Keep;
 use std::alloc::{AllocError, Global};
 use std::process::Abort;
@@ -35,71 +32,80 @@ fn extracts_of_extracts(rt: HostRuntime) {
     plays_twice(rt.alloc(), &rt, Play::Steps(&DRAWN_TWICE));
 }
 
-/// Echo's list, a deposit by Foxtrot, and Echo's extracts of the first two deposits.
-fn four_of<'a>(
-    echo: &'a Caller,
-    foxtrot: &'a Caller,
-    project: &'a Name,
-    day: Day,
-) -> [Request<'a>; 4] {
-    [
-        list_of(echo, project, day),
-        deposit_of(foxtrot, project, day, FILE_A, day),
-        extract_of(echo, project, 1, &[], day),
-        extract_of(echo, project, 2, &[], day),
-    ]
-}
-
-/// What the four requests are answered.
-static ANSWERS: [Want; 4] = [LISTED, SECOND, Want::Gives(B_SHOWN), Want::Gives(A)];
-
-/// Whether four requests, one after the other, are answered so.
-fn answers_each<K: Keep>(
-    alloc: Global,
-    desk: &mut Desk<K>,
-    requests: &[Request],
-) -> Result<bool, AllocError> {
-    let answers = desk.run(alloc, requests)?;
-    Ok(answers.len() == 4 && count_wanted(alloc, &answers, &ANSWERS)? == 4)
-}
-
-/// Whether Echo's and Foxtrot's four requests are answered so.
-fn answers_four<K: Keep>(
-    alloc: Global,
-    desk: &mut Desk<K>,
-    callers: &Callers,
-    project: &Name,
-) -> Result<bool, AllocError> {
-    match two_of(callers, b"t-echo", b"t-foxtrot") {
-        Some((echo, foxtrot, day)) => {
-            answers_each(alloc, desk, &four_of(echo, foxtrot, project, day))
-        }
-        None => Ok(false),
-    }
-}
-
-/// Whether those four requests are answered so after Delta has deposited this body.
+/// Whether these steps are answered as they should be after Delta has deposited this body.
 pub fn answers_after_deposit<K: Keep>(
     alloc: Global,
     desk: &mut Desk<K>,
     callers: &Callers,
     project: &Name,
     body: &Body,
+    steps: &[Step],
 ) -> Result<bool, AllocError> {
     let step = Step("t-delta", UNTIL, Ask::Deposit(*body, UNTIL), FIRST);
     match holds(alloc, desk, callers, project, &step) {
-        Ok(true) => answers_four(alloc, desk, callers, project),
+        Ok(true) => hold(alloc, desk, callers, project, steps),
         other => other,
     }
 }
 
 /// The second file, with another result in a hidden row, with one hidden row more, and without its hidden rows.
-static BODIES: [Body; 4] = [B, B_WETTER, B_TESTED, B_SHOWN];
+static ALIKE: [Body; 4] = [B, B_WETTER, B_TESTED, B_SHOWN];
 
-/// `no_leak`: these bodies have no finding; Echo is shown the same of each, and no request brings any of them.
+/// What is answered of each of them.
+static SHOWN: [Step; 4] = [
+    Step("t-echo", UNTIL, Ask::List, LISTED),
+    Step("t-foxtrot", UNTIL, Ask::Deposit(A, UNTIL), SECOND),
+    Step("t-echo", UNTIL, Ask::Extract(1, &[]), Want::Gives(B_SHOWN)),
+    Step("t-echo", UNTIL, Ask::Extract(2, &[]), Want::Gives(A)),
+];
+
+/// Files that have little in common; the second has a dictionary of its own.
+static UNLIKE: [Body; 3] = [B, B_LINKED, C];
+
+/// What is answered of each of them under an embargo.
+static EMBARGOED: [Step; 4] = [
+    Step("t-echo", "2024-05-31", Ask::List, Want::Lists(&[])),
+    Step("t-foxtrot", "2024-05-31", Ask::Deposit(A, UNTIL), SECOND),
+    Step(
+        "t-echo",
+        "2024-05-31",
+        Ask::Extract(1, &[]),
+        Want::Says("unknown"),
+    ),
+    Step(
+        "t-echo",
+        "2024-05-31",
+        Ask::Extract(2, &[]),
+        Want::Says("unknown"),
+    ),
+];
+
+/// What is answered of each of them once it is withdrawn, to the firm that sent it too.
+static WITHDRAWN: [Step; 5] = [
+    Step("t-delta", UNTIL, Ask::Withdraw(1), Want::Withdrawn(1)),
+    Step("t-delta", UNTIL, Ask::List, Want::Lists(&[])),
+    Step(
+        "t-delta",
+        UNTIL,
+        Ask::Extract(1, &[]),
+        Want::Says("unknown"),
+    ),
+    Step("t-echo", UNTIL, Ask::List, Want::Lists(&[])),
+    Step("t-echo", UNTIL, Ask::Extract(1, &[]), Want::Says("unknown")),
+];
+
+/// Whether the steps are answered as they should be after a deposit of each of the bodies, over each store.
+fn each_is_answered(alloc: Global, rt: &impl Abort, bodies: &[Body], steps: &'static [Step]) {
+    for body in bodies {
+        plays_twice(alloc, rt, Play::AfterDeposit(*body, steps));
+    }
+}
+
+/// `no_leak`, of which the premises are met in three ways: the bodies have no finding, no request brings any of them, and
+/// the same is shown of each, or none is seen, under an embargo and from a withdrawal on.
 #[test]
 fn hidden_rows_are_not_revealed(rt: HostRuntime) {
-    for body in &BODIES {
-        plays_twice(rt.alloc(), &rt, Play::AfterDeposit(body));
-    }
+    each_is_answered(rt.alloc(), &rt, &ALIKE, &SHOWN);
+    each_is_answered(rt.alloc(), &rt, &UNLIKE, &EMBARGOED);
+    each_is_answered(rt.alloc(), &rt, &UNLIKE, &WITHDRAWN);
 }

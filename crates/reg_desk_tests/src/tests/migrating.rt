@@ -5,6 +5,7 @@ ghost use Rattle.std.specs.Prelude.{◌≡◌, false};
 use super::examples::MOST;
 use super::stops::migration::made_first_by;
 use super::stops::{BOTH, FIRST_SENT, SECOND_SENT, Stage, Visit, visited_tables};
+use super::table_caller::register_in;
 use super::{Over, Play, Step, plays};
 use reg_store::NoProgress;
 use reg_tables::{MigrateError, SqlKeep};
@@ -31,9 +32,9 @@ fn holds_then<S: Alter + Drop>(alloc: Global, keep: SqlKeep<S>) -> bool
     if held {
         return true;
     }
-    match SqlKeep::adopt(alloc, connection, &mut NoProgress) {
+    match register_in(alloc, connection) {
         Ok(keep) => holds_both(alloc, keep).0,
-        Err((_, _connection)) => false,
+        Err(_) => false,
     }
 }
 

@@ -2,18 +2,19 @@
 ghost use Rattle.std.specs.Prelude.{◌≡◌, ◌↔◌, false, IfOk, IfSome, IsSome, IsTrue};
 ghost use Rattle.serde_json.specs.View.{view};
 ghost use Rattle.serde_json.specs.Written.{compact_text, has_float};
+ghost use Rattle.reg_http.specs.Bodies.{clean_data, denied_data, receipt_data, withdrawn_data, IsReceiptData};
 ghost use Rattle.reg_http.specs.Rendering.{answer_status, is_fixed, IsRendered};
 ghost use Rattle.reg_http.specs.Replies.{json_kind, reply_text};
 
 use crate::refusal::{Refusal, error_reply};
 use crate::reply::lists::{findings_text, listing_text};
 use crate::reply::reply_front;
-use crate::reply::values::{clean_value, denied_value, receipt_value, value_text, withdrawn_value};
+use crate::request::as_text;
 use ags_rows::FindingList;
 use http::StatusCode;
 use reg_desk::{Answer, Listed};
 use reg_policy::Day;
-use serde_json::Value;
+use serde_json::{Value, json};
 use std::alloc::{AllocError, Global};
 
 /// The reply to an answer whose reply is always the same. It takes no memory.
@@ -76,6 +77,21 @@ fn receipt_reply(alloc: Global, number: u32, embargo: Day) -> Result<Vec<u8>, Al
     value_reply(alloc, StatusCode::OK, &value)
 }
 
+/// The body of a receipt.
+fn receipt_value(alloc: Global, number: u32, embargo: Day) -> Result<Value, AllocError>
+    ensures { IfOk result (λ value. IsReceiptData number embargo (view value)) }
+{
+    let day = embargo.text();
+    dated_value(alloc, as_text(&day), number)
+}
+
+/// A receipt with the text of its embargo day.
+fn dated_value(alloc: Global, embargo: &str, number: u32) -> Result<Value, AllocError>
+    ensures { IfOk result (λ value. view value ≡ receipt_data embargo.now number) }
+{
+    json!(in alloc; {"embargo": embargo, "number": number})
+}
+
 fn clean_reply(alloc: Global) -> Result<Vec<u8>, AllocError>
     ensures { IfOk result (λ reply. IsRendered Answer.Clean reply.items) }
 {
@@ -126,6 +142,27 @@ fn withdrawn_reply(alloc: Global, number: u32) -> Result<Vec<u8>, AllocError>
     value_reply(alloc, StatusCode::OK, &value)
 }
 
+/// The body of a denial.
+fn denied_value(alloc: Global, number: u32) -> Result<Value, AllocError>
+    ensures { IfOk result (λ value. view value ≡ denied_data number) }
+{
+    json!(in alloc; {"denied": number})
+}
+
+/// The body that says that a file is clean.
+fn clean_value(alloc: Global) -> Result<Value, AllocError>
+    ensures { IfOk result (λ value. view value ≡ clean_data) }
+{
+    json!(in alloc; {"clean": true})
+}
+
+/// The body that says that a deposit is withdrawn.
+fn withdrawn_value(alloc: Global, number: u32) -> Result<Value, AllocError>
+    ensures { IfOk result (λ value. view value ≡ withdrawn_data number) }
+{
+    json!(in alloc; {"withdrawn": number})
+}
+
 /// The reply with a JSON body, made in the memory of the body: its front is put after the body, and then moved
 /// before it.
 fn json_reply(alloc: Global, status: StatusCode, mut body: Vec<u8>) -> Result<Vec<u8>, AllocError>
@@ -142,8 +179,7 @@ fn value_reply(alloc: Global, status: StatusCode, value: &Value) -> Result<Vec<u
     requires { has_float (view value.now) ≡ false }
     ensures { IfOk result (λ reply. reply.items ≡ reply_text status json_kind (compact_text (view value.now))) }
 {
-    let body = value_text(alloc, value)?;
-    json_reply(alloc, status, body)
+    json_reply(alloc, status, value.to_vec(alloc)?)
 }
 
 /// The status of an answer's reply.
@@ -160,11 +196,4 @@ pub(crate) fn answer_status(answer: &Answer) -> StatusCode
         Answer::NoMemory | Answer::StoreFailed => StatusCode::SERVICE_UNAVAILABLE,
         Answer::Full => StatusCode::INSUFFICIENT_STORAGE,
     }
-}
-
-/// Whether a reply is the one that says that the store failed.
-pub fn is_store_failed_reply(reply: &[u8]) -> bool
-    ensures { IsTrue result ↔ IsRendered Answer.StoreFailed reply.now }
-{
-    reply == store_failed_reply().as_bytes()
 }

@@ -1,11 +1,15 @@
 //! The body of a request.
-ghost use Rattle.std.specs.Prelude.{◌≡◌, ◌≤◌, ◌<◌, ◌+◌, ◌++◌, ◌||◌, false, IfSome, is_none, take, Some};
+ghost use Rattle.std.specs.Prelude.{◌≡◌, ◌≤◌, ◌<◌, ◌+◌, ◌++◌, ◌||◌, false, IfOk, IfSome, is_none, take, Some};
+ghost use Rattle.reg_http.specs.Numbers.{length_by};
 ghost use Rattle.reg_http.specs.Tallies.{tally_inner, calls_of, tally_has_failed, one_call_more};
 ghost use Rattle.std.specs.Io.KnownBytes.{Consumes, IsAtEnd};
 ghost use Rattle.reg_http.specs.Views.{FitsBody, ReadsBody, is_read_fault};
 
-use crate::request::fill::read_more;
+use crate::refusal::Refusal;
+use crate::request::head::read_more;
 use crate::tally::Tally;
+use ags_rows::LIMIT;
+use reg_request::{is_number, number_from_digits};
 use std::alloc::Global;
 use std::io::Read;
 
@@ -66,4 +70,19 @@ fn read_chunk<R: Read>(reader: &mut Tally<R>, chunk: &mut [u8; 4096], room: usiz
     ensures failed { tally_has_failed reader.new ≡ (tally_has_failed reader.old || is_none result) }
 {
     read_more(reader, &mut chunk[..room], 0)
+}
+
+/// The length that the value of a Content-Length field announces: 1 to 10 digits, at most [`LIMIT`].
+pub(crate) fn length_of(value: &[u8]) -> Result<usize, Refusal>
+    ensures value { result ≡ length_by value.now }
+    ensures limit { IfOk result (λ n. n ≤ LIMIT) }
+{
+    if !is_number(value, 10) {
+        return Err(Refusal::BadLength);
+    }
+    let number = number_from_digits(value);
+    if number > LIMIT as u64 {
+        return Err(Refusal::TooLarge);
+    }
+    Ok(number as usize)
 }

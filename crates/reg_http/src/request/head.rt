@@ -1,9 +1,9 @@
 //! The head of a request, read piece by piece.
-ghost use Rattle.std.specs.Prelude.{◌≡◌, ◌≤◌};
-ghost use Rattle.reg_http.specs.Tallies.{calls_of, tally_has_failed, IsFresh};
+ghost use Rattle.std.specs.Prelude.{◌≡◌, ◌≤◌, ◌||◌, is_none, length};
+ghost use Rattle.reg_http.specs.Fills.{Fills};
+ghost use Rattle.reg_http.specs.Tallies.{tally_inner, calls_of, tally_has_failed, one_call_more, IsFresh};
 ghost use Rattle.reg_http.specs.Heads.{ReadsHeadFrom, HoldsIfWhole, is_fault, most_read};
 
-use crate::request::fill::read_more;
 use crate::tally::Tally;
 use httparse::spans::{HeaderSpan, RequestSpans, parse_request};
 use httparse::{Error, Status};
@@ -41,6 +41,24 @@ pub(crate) fn receive_head<R: Read>(
         }
     }
     HeadRead::Bad
+}
+
+/// Reads once into the buffer after its first `filled` bytes, and gives how many came.
+pub(crate) fn read_more<R: Read>(
+    reader: &mut Tally<R>,
+    buf: &mut [u8],
+    filled: usize,
+) -> Option<usize>
+    requires { filled ≤ length buf.old }
+    ensures filled { Fills (R.remaining (tally_inner reader.old)) (R.remaining (tally_inner reader.new))
+        buf.old buf.new filled result }
+    ensures calls { calls_of reader.new ≡ one_call_more (calls_of reader.old) }
+    ensures failed { tally_has_failed reader.new ≡ (tally_has_failed reader.old || is_none result) }
+{
+    match reader.read(&mut buf[filled..]) {
+        Ok(count) => Some(count),
+        Err(_) => None,
+    }
 }
 
 /// What is at the front of a connection.

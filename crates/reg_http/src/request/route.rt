@@ -2,11 +2,12 @@
 ghost use Rattle.std.specs.Prelude.{◌≡◌, IfOk, [], unwrap_or};
 ghost use Rattle.matchit.specs.Params.{named, AllText};
 ghost use Rattle.reg_http.specs.Agree.{IsAsDefined};
-ghost use Rattle.reg_http.specs.Routes.{page_in, has_body, kind_in, method_of, table, taken_by};
+ghost use Rattle.reg_http.specs.Routes.{page_in, method_of, table, taken_by, verb_in};
 ghost use Rattle.reg_http.specs.Views.{found_page};
 
 use crate::refusal::Refusal;
 use matchit::{InsertError, Params, Router};
+use reg_policy::Verb;
 use std::alloc::Global;
 
 /// The page of a path.
@@ -32,33 +33,23 @@ pub(crate) struct Found<'p> {
 /// What each method asks of a route.
 #[derive(Clone, Copy, Debug, PartialEq, Eq)]
 pub(crate) struct Page {
-    pub(crate) post: Option<Kind>,
-    pub(crate) get: Option<Kind>,
-    pub(crate) delete: Option<Kind>,
+    pub(crate) post: Option<Verb>,
+    pub(crate) get: Option<Verb>,
+    pub(crate) delete: Option<Verb>,
 }
 
-/// The kinds of request.
-#[derive(Clone, Copy, Debug, PartialEq, Eq)]
-pub(crate) enum Kind {
-    Check,
-    Deposit,
-    List,
-    Extract,
-    Withdraw,
-}
-
-/// The router of the register: the table of routes, methods and kinds.
+/// The router of the register: the table of routes, methods and verbs.
 #[rattlefmt::skip]
 fn router(alloc: Global) -> Result<Router<Page>, InsertError>
     ensures { IfOk result (λ routes. routes ≡ table) }
 {
     let mut routes = Router::new(alloc);
     routes.insert("/v1/projects/{project}/check",
-        Page { post: Some(Kind::Check), get: None, delete: None })?;
+        Page { post: Some(Verb::Check), get: None, delete: None })?;
     routes.insert("/v1/projects/{project}/deposits",
-        Page { post: Some(Kind::Deposit), get: Some(Kind::List), delete: None })?;
+        Page { post: Some(Verb::Deposit), get: Some(Verb::List), delete: None })?;
     routes.insert("/v1/projects/{project}/deposits/{number}",
-        Page { post: None, get: Some(Kind::Extract), delete: Some(Kind::Withdraw) })?;
+        Page { post: None, get: Some(Verb::Extract), delete: Some(Verb::Withdraw) })?;
     Ok(routes)
 }
 
@@ -90,16 +81,13 @@ fn part<'p>(params: &Params<'_, 'p>, name: &str) -> &'p str
 
 impl Page {
     /// What this method asks of the page.
-    pub(crate) fn kind(self, method: &[u8]) -> Result<Kind, Refusal>
-        ensures { result ≡ kind_in self method.now }
+    pub(crate) fn verb(self, method: &[u8]) -> Result<Verb, Refusal>
+        ensures { result ≡ verb_in self method.now }
     {
-        match self.by_method(method) {
-            Some(kind) => Ok(kind),
-            None => Err(Refusal::Method),
-        }
+        self.by_method(method).ok_or(Refusal::Method)
     }
 
-    fn by_method(self, method: &[u8]) -> Option<Kind>
+    fn by_method(self, method: &[u8]) -> Option<Verb>
         ensures { result ≡ method_of self method.now }
     {
         if method == b"POST".as_slice() {
@@ -110,18 +98,6 @@ impl Page {
             self.delete
         } else {
             None
-        }
-    }
-}
-
-impl Kind {
-    /// Whether such a request has a body.
-    pub(crate) fn has_body(self) -> bool
-        ensures { result ≡ has_body self }
-    {
-        match self {
-            Kind::Check | Kind::Deposit => true,
-            Kind::List | Kind::Extract | Kind::Withdraw => false,
         }
     }
 }

@@ -107,11 +107,11 @@ impl<S: Alter> SqlKeep<S> {
         ensures left { IfErr result (λ e. SurvivesRefusal e.0 bytes.entry.now
             (state S.Store connection) (state S.Store e.1)) }
     {
-        match fill(&mut connection, bytes) {
+        match fill(&mut connection, alloc, bytes) {
             Ok(()) => Ok(SqlKeep {
                 connection,
                 dictionary,
-                memory: Memory::new(alloc),
+                memory: Memory::new(alloc, bytes.len()),
                 has_failed: false,
                 alloc,
             }),
@@ -216,8 +216,9 @@ fn dictionary_from(alloc: Global, bytes: &[u8]) -> Result<Dictionary, CreateErro
     }
 }
 
-/// Makes the tables of a register in a database without a table, an index and a view.
-fn fill<S: Alter>(conn: &mut Connection<S>, bytes: &[u8]) -> Result<(), CreateError>
+/// Makes the tables of a register in a database without a table, an index and a view, if there is memory for a start
+/// that opens it.
+fn fill<S: Alter>(conn: &mut Connection<S>, alloc: Global, bytes: &[u8]) -> Result<(), CreateError>
     requires short { length bytes.now ≤ READABLE }
     requires reads { AreDictionary bytes.now }
 
@@ -246,6 +247,9 @@ fn fill<S: Alter>(conn: &mut Connection<S>, bytes: &[u8]) -> Result<(), CreateEr
     }
     if !conn.is_autocommit() {
         return Err(CreateError::Store);
+    }
+    if Memory::new(alloc, bytes.len()).try_start(alloc).is_err() {
+        return Err(CreateError::NoMemory);
     }
     match change_tables(conn, &NewTables { dictionary: bytes }) {
         Ok(()) => Ok(()),

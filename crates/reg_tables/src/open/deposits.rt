@@ -1,4 +1,4 @@
-//! Whether the deposits in the tables are whole, and their heads and digests.
+//! Whether the deposits in the tables are whole, and what is known of them.
 
 ghost use Rattle.std.specs.Prelude.{◌≡◌, ◌≢◌, ◌≤◌, ◌+◌, ◌∷◌, [], ℕ, List, length, true, Ok, Err, IfOk, IfErr, IfSome};
 ghost use Rattle.sqlite.specs.State.{HasCleanDisk};
@@ -10,16 +10,18 @@ ghost use Rattle.reg_store.specs.Keep.{fails, sent_of};
 ghost use Rattle.reg_tables.specs.Quiet.{IsIdle, IsStill, FindsThat};
 ghost use Rattle.reg_tables.specs.Found.{FindsOneIf, FindsOut, OnYes};
 ghost use Rattle.reg_tables.specs.Rows.{given_deposit};
-ghost use Rattle.reg_tables.specs.Heads.{HoldsHeads, IsDigestedAt, AddsHead, IsDigestedFrom};
+ghost use Rattle.reg_tables.specs.Heads.{AddsKnown, HoldsKnown, IsDigestedAt, IsDigestedFrom, IsSizeOf};
 ghost use Rattle.reg_tables.specs.Digests.{AreBelow, HoldsDigests, IsNew, numbers_under, own_digest};
 ghost use Rattle.reg_store.specs.Fit.{IsNamed, kept_rows};
 ghost use Rattle.reg_store.specs.Sent.{Sent};
 ghost use Rattle.reg_tables.specs.Whole.{AreWhole, HoldsBody, IsWhole};
 ghost use Rattle.reg_tables.specs.Methods.{HoldsLines, HoldsSteps};
 
+use crate::memory::Known;
 use crate::memory::digests::{Digests, digest_of};
+use crate::memory::room::Size;
 use crate::open::compare::{SameLines, SameSteps, are_all};
-use crate::open::head::{DigestedHead, into_head};
+use crate::open::head::{DigestedHead, into_known};
 use crate::read::equal::read_equal;
 use crate::read::gather::take_shown;
 use crate::read::read_numbered;
@@ -28,31 +30,31 @@ use crate::write::lines::few_rows;
 use ags_check::{CheckError, Checked, check};
 use ags_dict::Dictionary;
 use ags_rows::LIMIT;
-use reg_store::{KeepError, Kept, KeptHead, KeptRow, Progress};
+use reg_store::{KeepError, Kept, KeptRow, Progress};
 use sqlite::{Alter, Connection, Row, params};
 use std::alloc::Global;
 
-/// Whether the deposits from 1 to the count are whole. Their heads and digests are put into the lists.
+/// Whether the deposits from 1 to the count are whole. What is known of them and their digests are put into the lists.
 pub(crate) fn examine_deposits<S: Alter, P: Progress>(
     conn: &mut Connection<S>,
     alloc: Global,
     dictionary: &Dictionary,
     count: u32,
-    heads: &mut Vec<KeptHead>,
+    known: &mut Vec<Known>,
     digests: &mut Digests,
     progress: &mut P,
 ) -> Result<bool, KeepError>
     requires idle { IsIdle (state S.Store conn.old) }
-    requires none { heads.old.items ≡ [] }
+    requires none { known.old.items ≡ [] }
     requires no_digests { (digest : List ℕ) → numbers_under digests.old digest ≡ [] }
 
     // Whether the deposits are whole.
     ensures tested { FindsOut result (λ db. AreWhole db dictionary.now count)
         (state S.Store conn.old) (state S.Store conn.new) }
 
-    // The heads and digests in the lists, where the deposits are whole.
-    ensures long { result ≡ Ok true → length heads.new.items ≡ count }
-    ensures heads { OnYes result (λ db. HoldsHeads db count heads.new.items)
+    // What is known and the digests in the lists, where the deposits are whole.
+    ensures long { result ≡ Ok true → length known.new.items ≡ count }
+    ensures known { OnYes result (λ db. HoldsKnown db dictionary.now known.new.items)
         (state S.Store conn.old) (state S.Store conn.new) }
     ensures below { result ≡ Ok true → AreBelow digests.new (count + 1) }
     ensures digests { OnYes result (λ db. HoldsDigests db (count + 1) digests.new)
@@ -66,7 +68,7 @@ pub(crate) fn examine_deposits<S: Alter, P: Progress>(
 {
     progress.checked(0, count);
     for at in 0..count {
-        match examine_deposit(conn, alloc, dictionary, at + 1, heads, digests) {
+        match examine_deposit(conn, alloc, dictionary, at + 1, known, digests) {
             Ok(true) => progress.checked(at + 1, count),
             Ok(false) => return Ok(false),
             Err(error) => return Err(error),
@@ -75,14 +77,14 @@ pub(crate) fn examine_deposits<S: Alter, P: Progress>(
     Ok(true)
 }
 
-/// Whether the deposit of a number is whole. Its head and its digest are then put into the lists, which are those of
-/// the numbers below.
+/// Whether the deposit of a number is whole. What is known of it and its digest are then put into the lists, which are
+/// those of the numbers below.
 fn examine_deposit<S: Alter>(
     conn: &mut Connection<S>,
     alloc: Global,
     dictionary: &Dictionary,
     number: u32,
-    heads: &mut Vec<KeptHead>,
+    known: &mut Vec<Known>,
     digests: &mut Digests,
 ) -> Result<bool, KeepError>
     requires idle { IsIdle (state S.Store conn.old) }
@@ -91,15 +93,18 @@ fn examine_deposit<S: Alter>(
         → HoldsDigests (state S.Store conn.old).now number digests.old }
     ensures tested { FindsOut result (λ db. IsWhole db dictionary.now number)
         (state S.Store conn.old) (state S.Store conn.new) }
-    ensures put { AddsHead result number heads.old heads.new digests.old digests.new
+    ensures put { AddsKnown result dictionary.now number known.old known.new digests.old digests.new
         (state S.Store conn.old) (state S.Store conn.new) }
     ensures refused { IfErr result (λ e. e ≢ KeepError.Full) }
     ensures quiet { IsStill (state S.Store conn.old) (state S.Store conn.new) (fails result) }
 {
     match whole_head(conn, alloc, dictionary, number, digests) {
         Ok(Some(one)) => {
-            let DigestedHead { head, digest } = one;
-            heads.push(head)?;
+            let DigestedHead {
+                known: head,
+                digest,
+            } = one;
+            known.push(head)?;
             digests.add(alloc, digest, number)?;
             Ok(true)
         }
@@ -108,7 +113,7 @@ fn examine_deposit<S: Alter>(
     }
 }
 
-/// The head of a number's deposit with its digest, if that deposit is whole. The digests are those of the numbers
+/// What is known of a number's deposit, with its digest, if that deposit is whole. The digests are those of the numbers
 /// below.
 fn whole_head<S: Alter>(
     conn: &mut Connection<S>,
@@ -123,7 +128,7 @@ fn whole_head<S: Alter>(
         → HoldsDigests (state S.Store conn.old).now number digests.now }
     ensures tested { FindsOneIf result (λ db. IsWhole db dictionary.now number)
         (state S.Store conn.old) (state S.Store conn.new) }
-    ensures head { FindsThat result (λ db found. IfSome found (IsDigestedAt db number))
+    ensures head { FindsThat result (λ db found. IfSome found (IsDigestedAt db dictionary.now number))
         (state S.Store conn.old) (state S.Store conn.new) }
     ensures refused { IfErr result (λ e. e ≢ KeepError.Full) }
     ensures quiet { IsStill (state S.Store conn.old) (state S.Store conn.new) (fails result) }
@@ -150,7 +155,7 @@ fn take_deposit(alloc: Global, number: u32, rows: Vec<Row>) -> Result<Kept, Keep
     deposit_in(alloc, number, &rows)
 }
 
-/// The head of a deposit with its digest, if the deposit is whole. The digests are those of the numbers below.
+/// What is known of a deposit, with its digest, if the deposit is whole. The digests are those of the numbers below.
 fn kept_head<S: Alter>(
     conn: &mut Connection<S>,
     alloc: Global,
@@ -163,22 +168,23 @@ fn kept_head<S: Alter>(
     ensures tested { FindsOneIf result (λ db. HoldsBody db dictionary.now number (sent_of kept)
         × IsNew db (numbers_under digests.now (own_digest (sent_of kept))) (sent_of kept))
         (state S.Store conn.old) (state S.Store conn.new) }
-    ensures head { IfOk result (λ found. IfSome found (IsDigestedFrom (sent_of kept))) }
+    ensures head { IfOk result (λ found. IfSome found (IsDigestedFrom dictionary.now (sent_of kept))) }
     ensures refused { IfErr result (λ e. e ≢ KeepError.Full) }
     ensures quiet { IsStill (state S.Store conn.old) (state S.Store conn.new) (fails result) }
 {
     let digest = digest_of(&kept.firm, &kept.project, kept.bytes.as_slice());
     match examine_kept(conn, alloc, dictionary, number, &kept, digests.of(&digest)) {
-        Ok(true) => Ok(Some(DigestedHead {
-            head: into_head(kept),
+        Ok(Some(size)) => Ok(Some(DigestedHead {
+            known: into_known(kept, size),
             digest,
         })),
-        Ok(false) => Ok(None),
+        Ok(None) => Ok(None),
         Err(error) => Err(error),
     }
 }
 
-/// Whether the deposit has no finding, its lines and steps are kept, and none of these numbers is that of an equal one.
+/// How much the deposit has, if it has no finding, its lines and steps are kept, and none of these numbers is that of an
+/// equal one.
 fn examine_kept<S: Alter>(
     conn: &mut Connection<S>,
     alloc: Global,
@@ -186,17 +192,23 @@ fn examine_kept<S: Alter>(
     number: u32,
     kept: &Kept,
     numbers: &[u32],
-) -> Result<bool, KeepError>
+) -> Result<Option<Size>, KeepError>
     requires idle { IsIdle (state S.Store conn.old) }
-    ensures tested { FindsOut result (λ db. HoldsBody db dictionary.now number (sent_of kept.now)
+    ensures tested { FindsOneIf result (λ db. HoldsBody db dictionary.now number (sent_of kept.now)
         × IsNew db numbers.now (sent_of kept.now))
         (state S.Store conn.old) (state S.Store conn.new) }
+    ensures size { IfOk result (λ found. IfSome found (IsSizeOf dictionary.now (sent_of kept.now))) }
     ensures refused { IfErr result (λ e. e ≢ KeepError.Full) }
     ensures quiet { IsStill (state S.Store conn.old) (state S.Store conn.new) (fails result) }
 {
-    match examine_body(conn, alloc, dictionary, number, kept) {
-        Ok(true) => examine_repeats(conn, alloc, numbers, kept),
-        Ok(false) => Ok(false),
+    let size = match examine_body(conn, alloc, dictionary, number, kept) {
+        Ok(Some(size)) => size,
+        Ok(None) => return Ok(None),
+        Err(error) => return Err(error),
+    };
+    match examine_repeats(conn, alloc, numbers, kept) {
+        Ok(true) => Ok(Some(size)),
+        Ok(false) => Ok(None),
         Err(error) => Err(error),
     }
 }
@@ -228,29 +240,53 @@ fn examine_repeats<S: Alter>(
     }
 }
 
-/// Whether the deposit has no finding and is not too long, and the lines and steps of its file are those that are kept
-/// of it.
+/// How much the deposit has, if it has no finding and is not too long, and the lines and steps of its file are those
+/// that are kept of it.
 fn examine_body<S: Alter>(
     conn: &mut Connection<S>,
     alloc: Global,
     dictionary: &Dictionary,
     number: u32,
     kept: &Kept,
-) -> Result<bool, KeepError>
+) -> Result<Option<Size>, KeepError>
     requires idle { IsIdle (state S.Store conn.old) }
-    ensures tested { FindsOut result (λ db. HoldsBody db dictionary.now number (sent_of kept.now))
+    ensures tested { FindsOneIf result (λ db. HoldsBody db dictionary.now number (sent_of kept.now))
         (state S.Store conn.old) (state S.Store conn.new) }
+    ensures size { IfOk result (λ found. IfSome found (IsSizeOf dictionary.now (sent_of kept.now))) }
     ensures refused { IfErr result (λ e. e ≢ KeepError.Full) }
     ensures quiet { IsStill (state S.Store conn.old) (state S.Store conn.new) (fails result) }
 {
     let bytes = kept.bytes.as_slice();
     if bytes.len() > LIMIT {
-        return Ok(false);
+        return Ok(None);
     }
     match check(alloc, dictionary, bytes) {
-        Ok(file) => examine_checked(conn, alloc, number, &file),
-        Err(CheckError::Findings(_found)) => Ok(false),
+        Ok(file) => checked_size(conn, alloc, number, &file),
+        Err(CheckError::Findings(_found)) => Ok(None),
         Err(CheckError::NoMemory) => Err(KeepError::NoMemory),
+    }
+}
+
+/// How much this file has, if the lines and steps that are kept of a deposit are its own.
+fn checked_size<S: Alter>(
+    conn: &mut Connection<S>,
+    alloc: Global,
+    number: u32,
+    file: &Checked<'_>,
+) -> Result<Option<Size>, KeepError>
+    requires idle { IsIdle (state S.Store conn.old) }
+    requires clean { IsClean file.now }
+    ensures tested { FindsOneIf result (λ db. HoldsLines db number (kept_rows file.now.groups)
+        × HoldsSteps db number file.now.graph.steps)
+        (state S.Store conn.old) (state S.Store conn.new) }
+    ensures size { IfOk result (λ found. IfSome found (λ size. size.rows ≡ file.now.graph.rows)) }
+    ensures refused { IfErr result (λ e. e ≢ KeepError.Full) }
+    ensures quiet { IsStill (state S.Store conn.old) (state S.Store conn.new) (fails result) }
+{
+    match examine_checked(conn, alloc, number, file) {
+        Ok(true) => Ok(Some(Size::of(file))),
+        Ok(false) => Ok(None),
+        Err(error) => Err(error),
     }
 }
 

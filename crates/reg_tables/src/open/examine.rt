@@ -9,7 +9,7 @@ ghost use Rattle.reg_tables.specs.Quiet.{IsIdle, IsStill, FindsThat};
 ghost use Rattle.reg_tables.specs.Found.{AreNumbersFromOne, FindsAll};
 ghost use Rattle.reg_tables.specs.Rows.{deposit_table, first_column};
 ghost use Rattle.reg_tables.specs.Tables.{format_number, schema_of};
-ghost use Rattle.reg_tables.specs.Heads.{HoldsHeads};
+ghost use Rattle.reg_tables.specs.Heads.{HoldsKnown};
 ghost use Rattle.reg_tables.specs.Digests.{AreBelow, HoldsDigests, numbers_under};
 ghost use Rattle.reg_tables.specs.Adopts.{number_rows};
 ghost use Rattle.reg_tables.specs.Whole.{Counts};
@@ -18,42 +18,42 @@ ghost use Rattle.sqlite.specs.Effect.{IsDatabase};
 
 use crate::error::AdoptError;
 use crate::memory::digests::Digests;
+use crate::memory::{Found, Known};
 use crate::open::deposits::examine_deposits;
-use crate::open::meta::{meta_dictionary, read_meta};
+use crate::open::meta::{body_bytes, meta_dictionary, read_meta};
 use crate::open::values::is_row;
 use crate::read::queries::query;
 use crate::schema::format::Format;
 use ags_dict::Dictionary;
-use reg_store::{KeepError, KeptHead, MOST, Progress};
+use reg_store::{KeepError, MOST, Progress};
 use sqlite::types::ToSql;
 use sqlite::{Alter, Connection, Row};
 use std::alloc::Global;
 
 /// The dictionary of the register and how many deposits it has, if the tables are one of the format, whatever the marks
-/// are. Heads and digests are put into the lists.
+/// are. What is known of its deposits is put there, which was empty.
 pub(crate) fn examine<S: Alter, P: Progress>(
     conn: &mut Connection<S>,
     alloc: Global,
     format: Format,
-    heads: &mut Vec<KeptHead>,
-    digests: &mut Digests,
+    found: &mut Found,
     progress: &mut P,
 ) -> Result<(Dictionary, u32), AdoptError>
     requires idle { IsIdle (state S.Store conn.old) }
     requires schema { HasCleanDisk (state S.Store conn.old) → (state S.Store conn.old).now.schema ≡ schema_of format }
-    requires none { heads.old.items ≡ [] }
-    requires no_digests { (digest : List ℕ) → numbers_under digests.old digest ≡ [] }
+    requires none { found.old.known.items ≡ [] }
+    requires no_digests { (digest : List ℕ) → numbers_under found.old.digests digest ≡ [] }
 
     // What is answered, by what the tables are.
     ensures examines { HasCleanDisk (state S.Store conn.new) → Examines format (state S.Store conn.old).now result }
 
-    // The count at success, and the heads and digests in the lists.
-    ensures few { IfOk result (λ found. found.1 ≤ 999999) }
-    ensures long { IfOk result (λ found. length heads.new.items ≡ found.1) }
-    ensures heads { FindsThat result (λ db found. HoldsHeads db found.1 heads.new.items)
+    // The count at success, and what is known of the deposits.
+    ensures few { IfOk result (λ read. read.1 ≤ 999999) }
+    ensures long { IfOk result (λ read. length found.new.known.items ≡ read.1) }
+    ensures known { FindsThat result (λ db read. HoldsKnown db read.0 found.new.known.items)
         (state S.Store conn.old) (state S.Store conn.new) }
-    ensures below { IfOk result (λ found. AreBelow digests.new (found.1 + 1)) }
-    ensures digests { FindsThat result (λ db read. HoldsDigests db (read.1 + 1) digests.new)
+    ensures below { IfOk result (λ read. AreBelow found.new.digests (read.1 + 1)) }
+    ensures digests { FindsThat result (λ db read. HoldsDigests db (read.1 + 1) found.new.digests)
         (state S.Store conn.old) (state S.Store conn.new) }
 
     // What is left in either case.
@@ -61,22 +61,30 @@ pub(crate) fn examine<S: Alter, P: Progress>(
         → IsTrue (state S.Store conn.new).is_open }
     ensures quiet { IsStill (state S.Store conn.old) (state S.Store conn.new) (gives_up result) }
 {
-    let dictionary = match read_dictionary(conn, alloc, format) {
+    let dictionary = match read_dictionary(conn, alloc, format, &mut found.dictionary_bytes) {
         Ok(dictionary) => dictionary,
         Err(error) => return Err(error),
     };
     let _schema = conn.schema();
-    match read_register(conn, alloc, &dictionary, heads, digests, progress) {
+    match read_register(
+        conn,
+        alloc,
+        &dictionary,
+        &mut found.known,
+        &mut found.digests,
+        progress,
+    ) {
         Ok(count) => Ok((dictionary, count)),
         Err(error) => Err(error),
     }
 }
 
-/// The dictionary of the register, if meta is that of the format.
+/// The dictionary of the register, if meta is that of the format, and how many bytes are in the rows of meta.
 fn read_dictionary<S: Alter>(
     conn: &mut Connection<S>,
     alloc: Global,
     format: Format,
+    meta_bytes: &mut usize,
 ) -> Result<Dictionary, AdoptError>
     requires idle { IsIdle (state S.Store conn.old) }
     ensures read { HasCleanDisk (state S.Store conn.new) → MetaOf (format_number format) (state S.Store conn.old).now result }
@@ -85,24 +93,27 @@ fn read_dictionary<S: Alter>(
     ensures quiet { IsStill (state S.Store conn.old) (state S.Store conn.new) (gives_up result) }
 {
     match read_meta(conn) {
-        Ok(rows) => meta_dictionary(alloc, &rows, format),
+        Ok(rows) => {
+            *meta_bytes = body_bytes(&rows);
+            meta_dictionary(alloc, &rows, format)
+        }
         Err(error) => Err(AdoptError::from(error)),
     }
 }
 
 /// How many deposits the register has, if the tables are one, whatever the marks are. Its tables are those of a format,
-/// and the dictionary is that of its meta; heads and digests are put into the lists.
+/// and the dictionary is that of its meta; what is known of the deposits and their digests are put into the lists.
 fn read_register<S: Alter, P: Progress>(
     conn: &mut Connection<S>,
     alloc: Global,
     dictionary: &Dictionary,
-    heads: &mut Vec<KeptHead>,
+    known: &mut Vec<Known>,
     digests: &mut Digests,
     progress: &mut P,
 ) -> Result<u32, AdoptError>
     requires idle { IsIdle (state S.Store conn.old) }
     requires sound { HasCleanDisk (state S.Store conn.old) → IsDatabase (state S.Store conn.old).now }
-    requires none { heads.old.items ≡ [] }
+    requires none { known.old.items ≡ [] }
     requires no_digests { (digest : List ℕ) → numbers_under digests.old digest ≡ [] }
 
     // The count at success.
@@ -111,9 +122,9 @@ fn read_register<S: Alter, P: Progress>(
         (state S.Store conn.old) (state S.Store conn.new) }
     ensures few { IfOk result (λ count. count ≤ 999999) }
 
-    // The heads and digests in the lists at success.
-    ensures long { IfOk result (λ count. length heads.new.items ≡ count) }
-    ensures heads { FindsThat result (λ db count. HoldsHeads db count heads.new.items)
+    // What is known and the digests in the lists at success.
+    ensures long { IfOk result (λ count. length known.new.items ≡ count) }
+    ensures known { FindsThat result (λ db _. HoldsKnown db dictionary.now known.new.items)
         (state S.Store conn.old) (state S.Store conn.new) }
     ensures below { IfOk result (λ count. AreBelow digests.new (count + 1)) }
     ensures digests { FindsThat result (λ db count. HoldsDigests db (count + 1) digests.new)
@@ -132,7 +143,7 @@ fn read_register<S: Alter, P: Progress>(
         Ok(None) => return Err(AdoptError::NotRegister),
         Err(error) => return Err(AdoptError::from(error)),
     };
-    match examine_deposits(conn, alloc, dictionary, count, heads, digests, progress) {
+    match examine_deposits(conn, alloc, dictionary, count, known, digests, progress) {
         Ok(true) => Ok(count),
         Ok(false) => Err(AdoptError::NotRegister),
         Err(error) => Err(AdoptError::from(error)),

@@ -1,21 +1,23 @@
-//! The head of a deposit with its digest.
+//! What is known of a deposit from its row and its file.
 
 ghost use Rattle.std.specs.Prelude.{◌≡◌};
 ghost use Rattle.reg_store.specs.Keep.{sent_of};
-ghost use Rattle.reg_tables.specs.Heads.{head_of};
+ghost use Rattle.reg_tables.specs.Heads.{head_of, new_known};
 
+use crate::memory::Known;
+use crate::memory::room::Size;
 use reg_store::{Kept, KeptHead};
 
-/// The head of a deposit with its digest.
+/// What is known of a deposit, with its digest.
 #[derive(Drop)]
 pub(crate) struct DigestedHead {
-    pub head: KeptHead,
+    pub known: Known,
     pub digest: [u8; 32],
 }
 
-/// The head of a deposit, whose bytes are dropped. It has no mark: the marks are read later.
-pub(crate) fn into_head(kept: Kept) -> KeptHead
-    ensures { result ≡ head_of (sent_of kept) }
+/// What is known of a deposit of this size, whose bytes are dropped. It has no mark: the marks are read later.
+pub(crate) fn into_known(kept: Kept, size: Size) -> Known
+    ensures { result ≡ new_known (head_of (sent_of kept)) size }
 {
     let Kept {
         firm,
@@ -24,10 +26,15 @@ pub(crate) fn into_head(kept: Kept) -> KeptHead
         bytes: _,
         withdrawn: _,
     } = kept;
-    KeptHead {
-        firm,
-        project,
-        embargo,
-        withdrawn: false,
+    Known {
+        head: KeptHead {
+            firm,
+            project,
+            embargo,
+            withdrawn: false,
+        },
+        size,
+        project: None,
+        alone: None,
     }
 }

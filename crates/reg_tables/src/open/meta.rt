@@ -137,6 +137,17 @@ fn format_in(row: &Row) -> Option<i64>
     }
 }
 
+/// How many bytes are in the bodies of these rows.
+pub(crate) fn body_bytes(rows: &[Row]) -> usize {
+    let mut bytes: usize = 0;
+    for row in rows {
+        if let Ok(ValueRef::Blob(body)) = row.get_ref(2) {
+            bytes = bytes.saturating_add(body.len());
+        }
+    }
+    bytes
+}
+
 /// The rows of meta, ordered by name.
 pub(crate) fn read_meta<S: Alter>(conn: &mut Connection<S>) -> Result<Vec<Row>, KeepError>
     requires idle { IsIdle (state S.Store conn.old) }

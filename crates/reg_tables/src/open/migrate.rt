@@ -10,7 +10,7 @@ ghost use Rattle.reg_tables.specs.Commits.{CommitsAll};
 ghost use Rattle.reg_tables.specs.Memory.{Recalls};
 ghost use Rattle.reg_tables.specs.Migrates.{MigratesFiles, MigratesRegister, SurvivesMigration};
 ghost use Rattle.reg_tables.specs.Migrates.{SurvivesRefusedMigration};
-ghost use Rattle.reg_tables.specs.Opened.{RefusesFiles, ShowsFiles};
+ghost use Rattle.reg_tables.specs.Opened.{RefusesMigration, ShowsFiles};
 ghost use Rattle.reg_tables.specs.Quiet.{StaysIfClean, StaysIfOpen};
 ghost use Rattle.reg_tables.specs.declared.schema.format.Format.TheVariants.{First};
 
@@ -90,7 +90,7 @@ impl<F: Start> SqlKeep<FileStore<FileFrom<F>>> {
         ensures migrated { IfOk result (λ k. MigratesFiles (image_at F.Start) k.dictionary (file_state k.connection)) }
         ensures working { IfOk result (λ k. k.has_failed ≡ false) }
         ensures refused { IfErr result (λ e.
-            IfSome e.1 (λ c. HasCleanDisk (file_state c) → RefusesFiles First (image_at F.Start) e.0)) }
+            IfSome e.1 (λ c. HasCleanDisk (file_state c) → RefusesMigration (image_at F.Start) e.0)) }
         ensures unopened { IfErr result (λ e. e.1 ≡ None → (e.0 ≡ AdoptError.Store) ⊎ (e.0 ≡ AdoptError.NoMemory)) }
 
         // The connection that comes with a refusal: open, but after `Store`, and one that is open shows what the files
@@ -110,7 +110,8 @@ impl<F: Start> SqlKeep<FileStore<FileFrom<F>>> {
     }
 }
 
-/// Makes a register of format 1 one of format 2. Its dictionary, and what is known of its deposits.
+/// Makes a register of format 1 one of format 2, if there is memory for a start that opens it. Its dictionary, and what
+/// is known of its deposits.
 fn migrate_tables<S: Alter, P: Progress>(
     conn: &mut Connection<S>,
     alloc: Global,
@@ -143,6 +144,9 @@ fn migrate_tables<S: Alter, P: Progress>(
         Ok(known) => known,
         Err(error) => return Err(error),
     };
+    if known.1.try_start(alloc).is_err() {
+        return Err(AdoptError::NoMemory);
+    }
     match change_tables(conn, &SecondFormat) {
         Ok(()) => Ok(known),
         Err(error) => Err(AdoptError::from(error)),

@@ -11,8 +11,7 @@ ghost use Rattle.reg_tables.specs.declared.schema.format.Format.TheVariants.{Sec
 ghost use Rattle.reg_tables.specs.Migrates.{RecallsFirst};
 
 use crate::error::AdoptError;
-use crate::memory::Memory;
-use crate::memory::digests::Digests;
+use crate::memory::{Found, Memory};
 use crate::open::examine::examine;
 use crate::open::marks::read_marks;
 use crate::schema::format::Format;
@@ -41,16 +40,8 @@ pub(crate) fn recall<S: Alter, P: Progress>(
         → IsTrue (state S.Store conn.new).is_open }
     ensures quiet { IsStill (state S.Store conn.old) (state S.Store conn.new) (gives_up result) }
 {
-    let mut heads = Vec::new(alloc);
-    let mut digests = Digests::new(alloc);
-    let (dictionary, count) = match examine(
-        conn,
-        alloc,
-        Format::Second,
-        &mut heads,
-        &mut digests,
-        progress,
-    ) {
+    let mut known = Found::new(alloc);
+    let (dictionary, count) = match examine(conn, alloc, Format::Second, &mut known, progress) {
         Ok(found) => found,
         Err(error) => return Err(error),
     };
@@ -58,10 +49,7 @@ pub(crate) fn recall<S: Alter, P: Progress>(
         Ok(marks) => marks,
         Err(error) => return Err(error),
     };
-    match Memory::of(alloc, &heads, &marks, digests) {
-        Ok(memory) => Ok((dictionary, memory)),
-        Err(_) => Err(AdoptError::NoMemory),
-    }
+    Ok((dictionary, Memory::of(known, &marks)))
 }
 
 /// The dictionary of a register of format 1 and what is known of its deposits, if the tables are one.
@@ -80,24 +68,13 @@ pub(crate) fn recall_first<S: Alter, P: Progress>(
         → IsTrue (state S.Store conn.new).is_open }
     ensures quiet { IsStill (state S.Store conn.old) (state S.Store conn.new) (gives_up result) }
 {
-    let mut heads = Vec::new(alloc);
-    let mut digests = Digests::new(alloc);
-    let (dictionary, count) = match examine(
-        conn,
-        alloc,
-        Format::First,
-        &mut heads,
-        &mut digests,
-        progress,
-    ) {
+    let mut known = Found::new(alloc);
+    let (dictionary, count) = match examine(conn, alloc, Format::First, &mut known, progress) {
         Ok(found) => found,
         Err(error) => return Err(error),
     };
     let Ok(marks) = Vec::from_elem(alloc, false, count as usize) else {
         return Err(AdoptError::NoMemory);
     };
-    match Memory::of(alloc, &heads, &marks, digests) {
-        Ok(memory) => Ok((dictionary, memory)),
-        Err(_) => Err(AdoptError::NoMemory),
-    }
+    Ok((dictionary, Memory::of(known, &marks)))
 }

@@ -3,56 +3,34 @@
 ghost use Rattle.std.specs.Prelude.{◌≡◌, ◌≢◌, IfErr, IfOk};
 ghost use Rattle.sqlite.specs.Held.{state};
 ghost use Rattle.reg_store.specs.Keep.{fails};
-ghost use Rattle.reg_tables.specs.Methods.{HasRows, HasSteps, HoldsSteps};
+ghost use Rattle.reg_tables.specs.Methods.{HasSteps, HoldsSteps};
 ghost use Rattle.reg_tables.specs.Quiet.{FindsThat, IsIdle, IsStill};
-ghost use Rattle.reg_tables.specs.Rows.{line_table, step_table};
+ghost use Rattle.reg_tables.specs.Rows.{step_table};
 ghost use Rattle.reg_tables.specs.Found.{OfSteps};
 
 use crate::read::gather::take_shown;
-use crate::read::rows::{DataCount, KeptSteps};
+use crate::read::rows::KeptSteps;
 use ags_links::Graph;
 use reg_store::KeepError;
 use sqlite::{Alter, Connection, params};
 use std::alloc::Global;
 
-/// The steps that are kept of a deposit, between its DATA rows.
-#[tactic(auto, using(crate::proofs::QuietLaws::quiet_then, crate::proofs::QuietLaws::quiet_read, crate::proofs::QuietLaws::idle_then))]
+/// The steps that are kept of a deposit, between its DATA rows, of which there are so many.
 pub(crate) fn read_graph<S: Alter>(
     conn: &mut Connection<S>,
     alloc: Global,
     number: u32,
+    rows: u32,
 ) -> Result<Graph, KeepError>
     requires idle { IsIdle (state S.Store conn.old) }
-    ensures rows { FindsThat result (λ db graph. HasRows number (line_table db.trees) graph.rows)
-        (state S.Store conn.old) (state S.Store conn.new) }
+    ensures rows { IfOk result (λ graph. graph.rows ≡ rows) }
     ensures steps { FindsThat result (λ db graph. HasSteps number (step_table db.trees) graph.steps)
         (state S.Store conn.old) (state S.Store conn.new) }
     ensures refused { IfErr result (λ e. e ≢ KeepError.Full) }
     ensures quiet { IsStill (state S.Store conn.old) (state S.Store conn.new) (fails result) }
 {
-    let rows = read_data_count(conn, number)?;
     match read_steps(conn, alloc, number) {
         Ok(steps) => graph_of(rows, steps),
-        Err(error) => Err(error),
-    }
-}
-
-/// How many DATA rows are kept of a deposit.
-fn read_data_count<S: Alter>(conn: &mut Connection<S>, number: u32) -> Result<u32, KeepError>
-    requires idle { IsIdle (state S.Store conn.old) }
-    ensures found { FindsThat result (λ db n. HasRows number (line_table db.trees) n)
-        (state S.Store conn.old) (state S.Store conn.new) }
-    ensures refused { IfErr result (λ e. e ≢ KeepError.Full) }
-    ensures quiet { IsStill (state S.Store conn.old) (state S.Store conn.new) (fails result) }
-{
-    let mut data = DataCount { count: 0 };
-    match take_shown(
-        conn,
-        "SELECT seq, grp, kind, line FROM lines WHERE deposit = ?1 ORDER BY seq",
-        params![number],
-        &mut data,
-    ) {
-        Ok(()) => Ok(data.count),
         Err(error) => Err(error),
     }
 }

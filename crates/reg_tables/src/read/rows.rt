@@ -1,6 +1,6 @@
 //! What the rows of an answer are.
 
-ghost use Rattle.std.specs.Prelude.{◌≡◌, ◌≢◌, ◌<◌, ◌^◌, ◌∷◌, [], ℕ, ℤ, pos, List, Err, length, map, filter, IsTrue};
+ghost use Rattle.std.specs.Prelude.{◌≡◌, ◌≢◌, ◌<◌, ◌^◌, ◌∷◌, [], ℕ, ℤ, pos, List, Err, length, map, IsTrue};
 ghost use Rattle.std.specs.Prelude.{IfOk, IfErr};
 ghost use Rattle.sqlite.specs.Order.{Row as Values, column};
 ghost use Rattle.sqlite.specs.declared.types.Value.TheVariants.{Int, Text as Words, Blob};
@@ -9,7 +9,6 @@ ghost use Rattle.reg_policy.specs.Days.{is_day_number};
 ghost use Rattle.reg_store.specs.Sent.{Sent};
 ghost use Rattle.reg_store.specs.Keep.{sent_of};
 ghost use Rattle.reg_tables.specs.Rows.{given_deposit, placed_row, placed_rows, step_pair, number_row};
-ghost use Rattle.reg_tables.specs.DataCount.{is_shown_data};
 ghost use Rattle.reg_store.specs.Fit.{IsNamed};
 
 use crate::read::gather::Gather;
@@ -98,26 +97,6 @@ fn line_in(at: usize, row: &Row) -> Result<KeptRow, KeepError>
         kind: kind as u8,
         line: bytes_column(row, 3)?,
     })
-}
-
-/// How many of a file's rows are DATA rows.
-#[derive(Drop)]
-pub(crate) struct DataCount {
-    pub count: u32,
-}
-
-impl Gather for DataCount {
-    ghost holds = { λ _ it rows. it.count ≡ length (filter is_shown_data rows) };
-
-    fn take(&mut self, row: &Row) -> Result<(), KeepError> {
-        if number_column(row, 2)? == 4 {
-            match self.count.checked_add(1) {
-                Some(count) => self.count = count,
-                None => return Err(KeepError::Store),
-            }
-        }
-        Ok(())
-    }
 }
 
 /// The steps of a file.

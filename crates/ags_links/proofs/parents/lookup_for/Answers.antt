@@ -5,6 +5,7 @@ use Rattle.ags_links.specs.Families.{HasAmong, HasEntries}
 use Rattle.ags_links.specs.Lookups.{Finds}
 use Rattle.ags_links.specs.ParentRows.{link_names, text_at}
 use Rattle.ags_links.specs.Placing.{row_of}
+use Rattle.ags_links.proofs.Asking.{finds_all}
 use Rattle.ags_links.proofs.Choosing.{chosen_asked, chosen_below}
 use Rattle.ags_links.proofs.Kept.{texts}
 use Rattle.ags_links.proofs.parents.lookup_for.Goals as goal
@@ -23,4 +24,5 @@ returns c =
     let names = link_names c.args.links.now in
     IfOk-weaker c.rows_by_entries.result _ _ (λ lookup finds.
     chosen_asked rows c.args.links.now.rows.now names (text_at c.args.places.now c.args.row.now) c.in_ok-numbers.numbers.items lookup c.in_ok-numbers.ensures
-    (subst (λ ns. Finds lookup (HasAmong ns rows (HasEntries names))) c.deref-2.ensures.value (subst (λ hs. Finds lookup (HasAmong c.deref-2.result.now rows (HasEntries (texts hs)))) c.deref.ensures.value finds))) c.rows_by_entries.ensures
+    (subst (λ ns. Finds lookup (HasAmong ns rows (HasEntries names))) c.deref-2.ensures.value (subst (λ hs. Finds lookup (HasAmong c.deref-2.result.now rows (HasEntries (texts hs)))) c.deref.ensures.value
+    (finds_all lookup c.deref-2.result.now c.args.rows.now (texts c.deref.result.now) finds)))) c.rows_by_entries.ensures

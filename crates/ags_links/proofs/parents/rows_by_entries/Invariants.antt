@@ -1,9 +1,11 @@
-use Rattle.std.proofs.Common.{take, map}
-use Rattle.ags_links.specs.Families.{HasEntries, HasAmong}
+use Rattle.std.proofs.Common.{take}
 use Rattle.ags_links.specs.Lookups.{Finds, pairs_of}
-use Rattle.ags_links.specs.Placing.{row_of}
+use Rattle.ags_links.specs.ParentRows.{ArePlacesIn, HasAskedAmong}
 use Rattle.ags_links.proofs.Kept.{texts}
 use Rattle.ags_links.proofs.parents.rows_by_entries.Given as goal
 
 abbrev pub invariant-loop-number : goal.invariant-loop-number
-invariant-loop-number l = Finds (pairs_of l.pairs.items) (HasAmong (take l.number-index l.numbers) (map row_of l.rows) (HasEntries (texts l.headings)))
+invariant-loop-number l = record {
+  finds : Finds (pairs_of l.pairs.items) (HasAskedAmong l.asked (take l.number-index l.numbers) l.rows (texts l.headings));
+  placed : ArePlacesIn l.families (texts l.headings) l.stood;
+}

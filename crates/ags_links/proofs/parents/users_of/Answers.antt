@@ -1,11 +1,16 @@
 use Rattle.std.proofs.Common.{◌<◌, ◌∙◌, get_or, length, sym, subst, arith}
-use Rattle.std.proofs.lemmas.List.{get_or_default, length-set}
-use Rattle.std.proofs.lemmas.List.Elements.{All-set}
+use Rattle.std.proofs.lemmas.List.{length-set}
 use Rattle.ags_rows.specs.Collecting.{At}
-use Rattle.ags_links.specs.ParentRows.{AreUsersBelow, HasPlaces, IsAmongUsers}
+use Rattle.ags_links.specs.ParentRows.{HasPlaces}
 use Rattle.ags_links.proofs.RowLemmas.{read_at}
-use Rattle.ags_links.proofs.Using.{users_next}
+use Rattle.ags_links.proofs.Using.{no_users, all_users, users_next}
 use Rattle.ags_links.proofs.parents.users_of.Goals as goal
+
+pub loop-number-init : goal.loop-number-init
+loop-number-init c = record {
+  size = c.in_ok-users.ensures.count;
+  users = no_users c.args.rows.now c.args.of_groups.now c.in_ok-users.users.items c.in_ok-users.ensures.empty;
+}
 
 pub loop-number-preserved : goal.loop-number-preserved
 loop-number-preserved c =
@@ -18,24 +23,11 @@ loop-number-preserved c =
     let k = get_or of_groups row.place c.index-of_groups-row.result in
     let at_k : At of_groups row.place k = read_at of_groups row.place c.index-of_groups-row.result has.0 in
     let below : k.lookup < length users = omega (arith, has.1 k at_k, c.loop-number.invariant.size) in
-    let before = c.index-before.result.now in
     record {
-      size = length-set users k.lookup c.with_user.result ∙ c.loop-number.invariant.size;
-      users = users_next rows of_groups users i row k c.with_user.result c.loop-number.invariant.users (c.loop-number-test.true, sym c.index-rows-number.is) at_k below c.with_user.ensures.new
-          (λ d n h. c.with_user.ensures.old n (subst (λ v. IsAmongUsers v n) (get_or_default users k.lookup d before below ∙ sym c.index-before.ensures) h));
-      below = All-set (AreUsersBelow (length rows)) users k.lookup c.with_user.result
-          (c.with_user.ensures.below (length rows) (subst (AreUsersBelow (length rows)) (sym c.index-before.ensures) (c.loop-number.invariant.below k.lookup before below)) c.loop-number-test.true)
-          c.loop-number.invariant.below;
+      size = length-set users k.lookup c.push.new.self ∙ c.loop-number.invariant.size;
+      users = users_next rows of_groups users i row k c.index_mut.result.now c.push.new.self c.loop-number.invariant.users (c.loop-number-test.true, sym c.index-rows-number.is) at_k below
+          c.index_mut.ensures.value c.in_ok-push.ensures.items;
     }
 
-pub bounds-of_groups-row : goal.bounds-of_groups-row
-bounds-of_groups-row c = (subst (HasPlaces c.args.of_groups.now) (sym c.index-rows-number.is) (c.requires.grouped c.loop-number.number c.index-rows-number.result c.loop-number-test.true)).0
-
-pub returns-clause-size : goal.returns-clause-size
-returns-clause-size c = c.loop-number.invariant.size
-
 pub returns-clause-users : goal.returns-clause-users
-returns-clause-users c = λ lookup d lt n row links used. c.loop-number.invariant.users lookup d n row links lt (omega (arith, used.stands.0, c.loop-number-test.false)) used
-
-pub returns-clause-below : goal.returns-clause-below
-returns-clause-below c = c.loop-number.invariant.below
+returns-clause-users c = all_users c.args.rows.now c.args.of_groups.now c.loop-number.number c.loop-number.users.items c.loop-number-test.false c.loop-number.invariant.users

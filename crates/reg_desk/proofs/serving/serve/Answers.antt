@@ -1,58 +1,31 @@
-use Rattle.std.proofs.Common.{sym, subst}
-use Rattle.reg_desk.specs.Asked.{asked}
-use Rattle.reg_desk.specs.declared.request.Request.{Request}
-use Rattle.reg_desk.specs.Serving.{Serves, ShowsRows}
+use Rattle.std.proofs.Common.{ℕ, ◌∙◌, ap, sym}
+use Rattle.reg_policy.specs.Decision.{decision_of}
+use Rattle.reg_desk.specs.Asked.{Asked, asked, extract}
+use Rattle.reg_desk.specs.Serving.{ShowsRows}
+use Rattle.reg_desk.specs.declared.answer.Answer.TheVariants.{Denied}
+use Rattle.reg_desk.proofs.Serves.{denied_serves}
 use Rattle.reg_desk.proofs.serving.serve.Goals as goal
 
-pub serve_deposit-requires : goal.serve_deposit-requires
-serve_deposit-requires g c = c.requires
+-- a denial is no text
+denied_rows : (request : Asked) (n : ℕ) → ShowsRows request (Denied n)
+denied_rows (extract caller project number groups day) n = tt
+denied_rows request n = tt
 
-pub serve_check-requires : goal.serve_check-requires
-serve_check-requires g c = c.requires
+pub returns-in-Deny-clause-serves : goal.returns-in-Deny-clause-serves
+returns-in-Deny-clause-serves g c =
+    denied_serves g.K.Keep c.args.policy.now (asked c.args.request.now) c.args.keep.now c.in-Deny.rule c.requires
+    (sym (c.decide.ensures.decides ∙ ap (decision_of c.args.policy.now) c.subject_of.ensures) ∙ c.in-Deny.is)
 
-pub serve_listing-requires : goal.serve_listing-requires
-serve_listing-requires g c = c.requires
+pub returns-in-Deny-clause-rows : goal.returns-in-Deny-clause-rows
+returns-in-Deny-clause-rows g c = denied_rows (asked c.args.request.now) c.in-Deny.rule
 
-pub serve_extract-requires : goal.serve_extract-requires
-serve_extract-requires g c = c.requires
+pub serve_permitted-requires : goal.serve_permitted-requires
+serve_permitted-requires g c = c.requires
 
-pub serve_withdraw-requires : goal.serve_withdraw-requires
-serve_withdraw-requires g c = c.requires
+pub returns-in-Permit-clause-serves : goal.returns-in-Permit-clause-serves
+returns-in-Permit-clause-serves g c =
+    c.serve_permitted.ensures.serves c.in-Permit._rule
+    (sym (c.decide.ensures.decides ∙ ap (decision_of c.args.policy.now) c.subject_of.ensures) ∙ c.in-Permit.is)
 
-pub returns-in-Deposit-clause-serves : goal.returns-in-Deposit-clause-serves
-returns-in-Deposit-clause-serves g c =
-    subst (λ (r : Request). Serves g.K.Keep c.args.policy.now (asked r) c.args.keep.now c.serve_deposit.new.keep c.serve_deposit.result) (sym c.in-Deposit.is) c.serve_deposit.ensures
-
-pub returns-in-Check-clause-serves : goal.returns-in-Check-clause-serves
-returns-in-Check-clause-serves g c =
-    subst (λ (r : Request). Serves g.K.Keep c.args.policy.now (asked r) c.args.keep.now c.serve_check.new.keep c.serve_check.result) (sym c.in-Check.is) c.serve_check.ensures
-
-pub returns-in-List-clause-serves : goal.returns-in-List-clause-serves
-returns-in-List-clause-serves g c =
-    subst (λ (r : Request). Serves g.K.Keep c.args.policy.now (asked r) c.args.keep.now c.serve_listing.new.keep c.serve_listing.result) (sym c.in-List.is) c.serve_listing.ensures
-
-pub returns-in-Extract-clause-serves : goal.returns-in-Extract-clause-serves
-returns-in-Extract-clause-serves g c =
-    subst (λ (r : Request). Serves g.K.Keep c.args.policy.now (asked r) c.args.keep.now c.serve_extract.new.keep c.serve_extract.result) (sym c.in-Extract.is) c.serve_extract.ensures.serves
-
-pub returns-in-Withdraw-clause-serves : goal.returns-in-Withdraw-clause-serves
-returns-in-Withdraw-clause-serves g c =
-    subst (λ (r : Request).
-    Serves g.K.Keep c.args.policy.now (asked r) c.args.keep.now c.serve_withdraw.new.keep c.serve_withdraw.result)
-    (sym c.in-Withdraw.is) c.serve_withdraw.ensures
-
-pub returns-in-Deposit-clause-rows : goal.returns-in-Deposit-clause-rows
-returns-in-Deposit-clause-rows g c = subst (λ (r : Request). ShowsRows (asked r) c.serve_deposit.result) (sym c.in-Deposit.is) tt
-
-pub returns-in-Check-clause-rows : goal.returns-in-Check-clause-rows
-returns-in-Check-clause-rows g c = subst (λ (r : Request). ShowsRows (asked r) c.serve_check.result) (sym c.in-Check.is) tt
-
-pub returns-in-List-clause-rows : goal.returns-in-List-clause-rows
-returns-in-List-clause-rows g c = subst (λ (r : Request). ShowsRows (asked r) c.serve_listing.result) (sym c.in-List.is) tt
-
-pub returns-in-Extract-clause-rows : goal.returns-in-Extract-clause-rows
-returns-in-Extract-clause-rows g c = subst (λ (r : Request). ShowsRows (asked r) c.serve_extract.result) (sym c.in-Extract.is) c.serve_extract.ensures.rows
-
-pub returns-in-Withdraw-clause-rows : goal.returns-in-Withdraw-clause-rows
-returns-in-Withdraw-clause-rows g c = subst (λ (r : Request). ShowsRows (asked r) c.serve_withdraw.result)
-    (sym c.in-Withdraw.is) tt
+pub returns-in-Permit-clause-rows : goal.returns-in-Permit-clause-rows
+returns-in-Permit-clause-rows g c = c.serve_permitted.ensures.rows

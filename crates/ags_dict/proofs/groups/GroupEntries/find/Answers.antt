@@ -1,25 +1,19 @@
-use Rattle.std.proofs.Common.{ℕ, List, Option, sym, ap, ◌∙◌, slice_get, option_copied}
+use Rattle.std.proofs.Common.{◌≡◌, Some, None, option_copied, sym, ap, ◌∙◌}
 use Rattle.std.specs.List.{find}
-use Rattle.std.specs.Option.{option_and_then}
-use Rattle.ags_dict.specs.declared.entries.GroupEntry.{GroupEntry}
-use Rattle.ags_dict.specs.Index.{places_at, is_for}
-use Rattle.ags_dict.proofs.Found.{place_leads, first_passing}
+use Rattle.ags_dict.specs.Index.{is_for}
+use Rattle.ags_dict.proofs.Found.{find_first, find_after}
 use Rattle.ags_dict.proofs.groups.GroupEntries.find.Goals as goal
 
-pub returns-in_err-nth : goal.returns-in_err-nth
-returns-in_err-nth c =
+pub returns-in-Some : goal.returns-in-Some
+returns-in-Some c =
     let wanted = is_for c.args.group.now in
-    let entries = c.self.inside.entries.items in
-    let leads = λ (p : Option ℕ). option_and_then (slice_get entries) p in
-    ap option_copied c.from_residual.ensures ∙ ap leads (sym c.in_err-nth.was ∙ c.nth.ensures)
-    ∙ place_leads wanted entries (places_at c.self.inside.by_name c.args.group.now) 0 (c.self.invariant c.args.group.now)
-    ∙ first_passing wanted entries ∙ ap (find wanted) c.self.view_is
+    let shared : find wanted c.self.inside.shared.value ≡ Some c.in-Some.entry.now =
+    ap (find wanted) (sym c.deref.ensures) ∙ sym c.find.ensures ∙ ap option_copied c.in-Some.is in
+    find_first wanted c.self.inside.shared.value c.self.inside.own c.args.self.now c.in-Some.entry.now shared c.self.view_is
 
-pub returns : goal.returns
-returns c =
+pub returns-in-None : goal.returns-in-None
+returns-in-None c =
     let wanted = is_for c.args.group.now in
-    let entries = c.self.inside.entries.items in
-    let leads = λ (p : Option ℕ). option_and_then (slice_get entries) p in
-    c.at.ensures ∙ ap (λ (l : List GroupEntry). slice_get l c.in_ok-nth.field-0) (sym c.self.view_is) ∙ ap leads (sym c.in_ok-nth.was ∙ c.nth.ensures)
-    ∙ place_leads wanted entries (places_at c.self.inside.by_name c.args.group.now) 0 (c.self.invariant c.args.group.now)
-    ∙ first_passing wanted entries ∙ ap (find wanted) c.self.view_is
+    let shared : find wanted c.self.inside.shared.value ≡ None =
+    ap (find wanted) (sym c.deref.ensures) ∙ sym c.find.ensures ∙ ap option_copied c.in-None.is in
+    c.find-in-None.ensures ∙ find_after wanted c.self.inside.shared.value c.self.inside.own c.args.self.now shared c.self.view_is

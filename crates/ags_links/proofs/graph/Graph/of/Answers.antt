@@ -7,12 +7,12 @@ use Rattle.ags_links.proofs.Stepping.{no_steps, steps_more, steps_all, steps_in_
 use Rattle.ags_links.proofs.graph.Graph.of.Goals as goal
 
 pub loop-row-init : goal.loop-row-init
-loop-row-init c = no_steps c.new-steps.result.items c.args.index.now c.new-steps.ensures.items
+loop-row-init c = no_steps c.in_ok-steps.steps.items c.args.index.now c.in_ok-steps.ensures.items
 
 pub loop-row-preserved : goal.loop-row-preserved
 loop-row-preserved c =
-    steps_more c.args.index.now c.loop-row.row c.deref.result.now c.loop-row.steps.items c.add_steps.new.steps.items c.loop-row.invariant
-    (subst (λ ts. ListsRows ts (StepAt c.args.index.now c.loop-row.row)) (sym c.deref.ensures.value) c.in_ok-rows_stepped_to.ensures) c.in_ok-add_steps.ensures
+    steps_more c.args.index.now c.loop-row.row c.rows.result.now c.loop-row.steps.items c.add_steps.new.steps.items c.loop-row.invariant
+    (subst (λ ts. ListsRows ts (StepAt c.args.index.now c.loop-row.row)) (sym c.rows.ensures) c.in_ok-targets.ensures) c.in_ok-add_steps.ensures
 
 pub invariant_of-result : goal.invariant_of-result
 invariant_of-result c =

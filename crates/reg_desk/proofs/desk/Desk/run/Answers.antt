@@ -1,13 +1,10 @@
 use Rattle.std.proofs.Common.{◌≡◌, ◌∙◌, sym, ap, subst, refl, ◌+◌, List, [], ◌∷◌, ◌++◌, map, take, suc, arith}
-use Rattle.std.proofs.Math.Logic.{∥∥₁_map}
 use Rattle.std.proofs.lemmas.List.{take_all}
 use Rattle.reg_desk.specs.Asked.{Asked, asked}
 use Rattle.reg_desk.specs.declared.answer.Answer.{Answer}
 use Rattle.reg_desk.specs.declared.request.Request.{Request}
 use Rattle.reg_desk.specs.Desks.{AreAnsweredBy}
-use Rattle.reg_desk.specs.Running.{Runs}
-use Rattle.reg_desk.proofs.Running.{desk_runs, answered_more, asked_more}
-use Rattle.reg_desk.proofs.Lasting.{receipts_last}
+use Rattle.reg_desk.proofs.Running.{steps_run, answered_more, asked_more}
 use Rattle.reg_desk.proofs.desk.Desk.run.Goals as goal
 
 pub loop-request-init : goal.loop-request-init
@@ -44,11 +41,8 @@ returns-clause-answered g c =
 
 pub returns-clause-runs : goal.returns-clause-runs
 returns-clause-runs g c =
-    desk_runs g.K.Keep c.args.self.now c.loop-request.self (map asked c.args.requests.now) c.loop-request.answers.items g.met.K.Keep.settled g.met.K.Keep.unbroken (returns-clause-answered g c)
+    (steps_run g.K.Keep g.met.K.Keep.settled g.met.K.Keep.unbroken c.args.self.now c.loop-request.self (map asked c.args.requests.now) c.loop-request.answers.items (returns-clause-answered g c)).0
 
 pub returns-clause-receipts : goal.returns-clause-receipts
-returns-clause-receipts g c = λ s e list may.
-    let desk = c.args.self.now in
-    let requests = map asked c.args.requests.now in
-    ∥∥₁_map (returns-clause-runs g c s e) (λ (runs : Runs g.K.Keep desk.policy desk.keep c.loop-request.self.keep requests c.loop-request.answers.items).
-    receipts_last g.K.Keep desk.policy desk.keep c.loop-request.self.keep requests c.loop-request.answers.items runs list may)
+returns-clause-receipts g c =
+    (steps_run g.K.Keep g.met.K.Keep.settled g.met.K.Keep.unbroken c.args.self.now c.loop-request.self (map asked c.args.requests.now) c.loop-request.answers.items (returns-clause-answered g c)).1

@@ -13,7 +13,7 @@ pub held_already-requires : goal.held_already-requires
 held_already-requires g c = c.requires.working
 
 pub returns-in-Err : goal.returns-in-Err
-returns-in-Err g c = λ rules number day permit.
+returns-in-Err g c = λ rules day number permit.
     let K = g.K.Keep in
     let keep = c.args.keep.now in
     let bytes = c.args.checked.now.bytes in
@@ -22,7 +22,7 @@ returns-in-Err g c = λ rules number day permit.
     (deposit_unread K rules c.args.caller.now c.args.project.now c.args.embargo bytes day keep c.held_already.new.keep c.in-Err.error fine c.in-Err.ensures.reads (λ e. c.in-Err.ensures.refused (ap (λ x. Err x) e)))
 
 pub returns-in-Ok-Some : goal.returns-in-Ok-Some
-returns-in-Ok-Some g c = λ rules number day permit.
+returns-in-Ok-Some g c = λ rules day number permit.
     let K = g.K.Keep in
     let keep = c.args.keep.now in
     let bytes = c.args.checked.now.bytes in
@@ -52,7 +52,7 @@ add-requires-clause-fresh g c = λ s.
     ∙ none_number c.args.caller.now.firm c.args.project.now c.bytes.result.now 1 state (sym {b = first_equal 1 c.args.caller.now.firm c.args.project.now c.bytes.result.now state} (held s))
 
 pub returns-then-count-limit : goal.returns-then-count-limit
-returns-then-count-limit g c = λ rules number day permit.
+returns-then-count-limit g c = λ rules day number permit.
     let K = g.K.Keep in
     let keep = c.args.keep.now in
     let mid = c.held_already.new.keep in
@@ -67,7 +67,7 @@ returns-then-count-limit g c = λ rules number day permit.
     (λ s. omega (arith, c.count.ensures s works, c.limit.ensures))
 
 pub returns-in-Err-add : goal.returns-in-Err-add
-returns-in-Err-add g c = λ rules number day permit.
+returns-in-Err-add g c = λ rules day number permit.
     let K = g.K.Keep in
     let keep = c.args.keep.now in
     let bytes = c.args.checked.now.bytes in
@@ -83,7 +83,7 @@ returns-in-Err-add g c = λ rules number day permit.
     c.in-Err-add.ensures.leaves (λ s e. c.in-Err-add.ensures.full s (ap (λ x. Err x) e)))
 
 pub returns-in-Ok : goal.returns-in-Ok
-returns-in-Ok g c = λ rules number day permit.
+returns-in-Ok g c = λ rules day number permit.
     let K = g.K.Keep in
     let keep = c.args.keep.now in
     let bytes = c.args.checked.now.bytes in

@@ -1,9 +1,9 @@
-use Rattle.std.proofs.Common.{◌∙◌, sym, ap, subst, List, ℕ, Err}
+use Rattle.std.proofs.Common.{sym, ap, subst, List, ℕ, Err}
 use Rattle.reg_desk.specs.Asked.{extract, names_in}
 use Rattle.reg_desk.specs.declared.answer.Answer.TheVariants.{Unknown, Text}
 use Rattle.reg_desk.specs.Extract.{IsOfRows}
 use Rattle.reg_desk.specs.Serving.{IsAnswerOfRows, Serves, answer_of}
-use Rattle.reg_desk.proofs.Drawing.{extract_denied, extract_unread, extract_replies}
+use Rattle.reg_desk.proofs.Drawing.{extract_unread, extract_replies}
 use Rattle.reg_store.specs.declared.keep.KeepError.{KeepError}
 use Rattle.reg_store.specs.declared.keep.KeepError.TheVariants as errors
 use Rattle.reg_desk.proofs.serving.drawing.serve_extract.Goals as goal
@@ -13,35 +13,24 @@ no_text errors.Full = tt
 no_text errors.Store = tt
 no_text errors.NoMemory = tt
 
-pub returns-in-Deny-clause-serves : goal.returns-in-Deny-clause-serves
-returns-in-Deny-clause-serves g c =
-    extract_denied g.K.Keep c.args.policy.now c.args.caller.now c.args.project.now c.args.number (names_in c.args.groups.now) c.args.day c.args.keep.now c.in-Deny.rule c.requires
-    (sym c.decide_request.ensures ∙ c.in-Deny.is)
-
 pub draw-requires : goal.draw-requires
 draw-requires g c = c.requires
 
 pub returns-in-Err-clause-serves : goal.returns-in-Err-clause-serves
-returns-in-Err-clause-serves g c =
+returns-in-Err-clause-serves g c = λ number permit.
     subst (Serves g.K.Keep c.args.policy.now (extract c.args.caller.now c.args.project.now c.args.number (names_in c.args.groups.now) c.args.day) c.args.keep.now c.draw.new.keep) (sym c.refused.ensures)
-    (extract_unread g.K.Keep c.args.policy.now c.args.caller.now c.args.project.now c.args.number (names_in c.args.groups.now) c.args.day c.args.keep.now c.draw.new.keep _ c.in-Err.error
-    (sym c.decide_request.ensures ∙ c.in-Permit.is) c.in-Err.ensures.reads (λ e. c.in-Err.ensures.refused (ap (λ x. Err x) e)))
+    (extract_unread g.K.Keep c.args.policy.now c.args.caller.now c.args.project.now c.args.number (names_in c.args.groups.now) c.args.day c.args.keep.now c.draw.new.keep number c.in-Err.error permit c.in-Err.ensures.reads (λ e. c.in-Err.ensures.refused (ap (λ x. Err x) e)))
 
 pub returns-in-Ok-None-clause-serves : goal.returns-in-Ok-None-clause-serves
-returns-in-Ok-None-clause-serves g c =
+returns-in-Ok-None-clause-serves g c = λ number permit.
     let drawn = rw c.in-Ok-None.field-0-is at c.in-Ok-None.ensures.drawn in
-    extract_replies g.K.Keep c.args.policy.now c.args.caller.now c.args.project.now c.args.number (names_in c.args.groups.now) c.args.day c.args.keep.now c.draw.new.keep _ Unknown
-    (sym c.decide_request.ensures ∙ c.in-Permit.is) c.in-Ok-None.ensures.reads tt drawn
+    extract_replies g.K.Keep c.args.policy.now c.args.caller.now c.args.project.now c.args.number (names_in c.args.groups.now) c.args.day c.args.keep.now c.draw.new.keep number Unknown permit c.in-Ok-None.ensures.reads tt drawn
 
 pub returns-in-Ok-Some-clause-serves : goal.returns-in-Ok-Some-clause-serves
-returns-in-Ok-Some-clause-serves g c =
+returns-in-Ok-Some-clause-serves g c = λ number permit.
     let drawn = rw c.in-Ok-Some.field-0-is at c.in-Ok-Some.ensures.drawn in
     subst (λ (t : List ℕ). Serves g.K.Keep c.args.policy.now (extract c.args.caller.now c.args.project.now c.args.number (names_in c.args.groups.now) c.args.day) c.args.keep.now c.draw.new.keep (Text t)) (sym c.from_vec.ensures)
-    (extract_replies g.K.Keep c.args.policy.now c.args.caller.now c.args.project.now c.args.number (names_in c.args.groups.now) c.args.day c.args.keep.now c.draw.new.keep _ (Text c.in-Ok-Some.text.items)
-    (sym c.decide_request.ensures ∙ c.in-Permit.is) c.in-Ok-Some.ensures.reads tt drawn)
-
-pub returns-in-Deny-clause-rows : goal.returns-in-Deny-clause-rows
-returns-in-Deny-clause-rows g c = tt
+    (extract_replies g.K.Keep c.args.policy.now c.args.caller.now c.args.project.now c.args.number (names_in c.args.groups.now) c.args.day c.args.keep.now c.draw.new.keep number (Text c.in-Ok-Some.text.items) permit c.in-Ok-Some.ensures.reads tt drawn)
 
 pub returns-in-Err-clause-rows : goal.returns-in-Err-clause-rows
 returns-in-Err-clause-rows g c = subst IsAnswerOfRows (sym c.refused.ensures) (no_text c.in-Err.error)

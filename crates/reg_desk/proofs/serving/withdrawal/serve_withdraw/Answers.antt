@@ -2,39 +2,33 @@ use Rattle.std.proofs.Common.{◌∙◌, sym, ap, subst, Err, Some, Bool}
 use Rattle.reg_desk.specs.Asked.{withdraw}
 use Rattle.reg_desk.specs.Serving.{Serves}
 use Rattle.reg_desk.proofs.Serves.{still_works}
-use Rattle.reg_desk.proofs.Withdrawing.{withdraw_denied, withdraw_unread, withdraw_unknown, withdraw_again, withdraw_marks, withdraw_unmarked, own_within, own_unmarked}
+use Rattle.reg_desk.proofs.Withdrawing.{withdraw_unread, withdraw_unknown, withdraw_again, withdraw_marks, withdraw_unmarked, own_within, own_unmarked}
 use Rattle.reg_desk.proofs.serving.withdrawal.serve_withdraw.Goals as goal
-
-pub returns-in-Deny : goal.returns-in-Deny
-returns-in-Deny g c =
-    withdraw_denied g.K.Keep c.args.policy.now c.args.caller.now c.args.project.now c.args.number c.args.day c.args.keep.now
-    c.in-Deny.rule c.requires
-    (sym c.decide_request.ensures ∙ c.in-Deny.is)
 
 pub own_mark-requires : goal.own_mark-requires
 own_mark-requires g c = c.requires
 
 pub returns-in-Err : goal.returns-in-Err
-returns-in-Err g c =
-    subst (Serves g.K.Keep c.args.policy.now
-    (withdraw c.args.caller.now c.args.project.now c.args.number c.args.day) c.args.keep.now c.own_mark.new.keep) (sym
+returns-in-Err g c = λ rules day number permit.
+    subst (Serves g.K.Keep rules
+    (withdraw c.args.caller.now c.args.project.now c.args.number day) c.args.keep.now c.own_mark.new.keep) (sym
     c.refused.ensures)
-    (withdraw_unread g.K.Keep c.args.policy.now c.args.caller.now c.args.project.now c.args.number c.args.day c.args.keep.now
-    c.own_mark.new.keep _ c.in-Err.error
-    (sym c.decide_request.ensures ∙ c.in-Permit.is) c.in-Err.ensures.reads
+    (withdraw_unread g.K.Keep rules c.args.caller.now c.args.project.now c.args.number day c.args.keep.now
+    c.own_mark.new.keep number c.in-Err.error
+    permit c.in-Err.ensures.reads
     (λ e. c.in-Err.ensures.refused (ap (λ x. Err x) e)))
 
 pub returns-in-Ok-None : goal.returns-in-Ok-None
-returns-in-Ok-None g c =
+returns-in-Ok-None g c = λ rules day number permit.
     let own = rw c.in-Ok-None.field-0-is at c.in-Ok-None.ensures.own in
-    withdraw_unknown g.K.Keep c.args.policy.now c.args.caller.now c.args.project.now c.args.number c.args.day c.args.keep.now
-    c.own_mark.new.keep _ (sym c.decide_request.ensures ∙ c.in-Permit.is) c.in-Ok-None.ensures.reads own
+    withdraw_unknown g.K.Keep rules c.args.caller.now c.args.project.now c.args.number day c.args.keep.now
+    c.own_mark.new.keep number permit c.in-Ok-None.ensures.reads own
 
 pub returns-in-Ok-Some-true : goal.returns-in-Ok-Some-true
-returns-in-Ok-Some-true g c =
+returns-in-Ok-Some-true g c = λ rules day number permit.
     let own = rw c.in-Ok-Some-true.field-0-is at c.in-Ok-Some-true.ensures.own in
-    withdraw_again g.K.Keep c.args.policy.now c.args.caller.now c.args.project.now c.args.number c.args.day c.args.keep.now
-    c.own_mark.new.keep _ (sym c.decide_request.ensures ∙ c.in-Permit.is) c.in-Ok-Some-true.ensures.reads
+    withdraw_again g.K.Keep rules c.args.caller.now c.args.project.now c.args.number day c.args.keep.now
+    c.own_mark.new.keep number permit c.in-Ok-Some-true.ensures.reads
     (λ s. ap (λ (w : Bool). Some w) (sym c.in-Ok-Some-true.field-0-0-test) ∙ own s)
 
 pub withdraw-requires-clause-working : goal.withdraw-requires-clause-working
@@ -55,21 +49,21 @@ withdraw-requires-clause-unmarked g c =
     (λ s. ap (λ (w : Bool). Some w) (sym c.in-Ok-Some-false.field-0-0-test) ∙ own s)
 
 pub returns-in-Err-withdraw : goal.returns-in-Err-withdraw
-returns-in-Err-withdraw g c =
+returns-in-Err-withdraw g c = λ rules day number permit.
     let own = rw c.in-Ok-Some-false.field-0-is at c.in-Ok-Some-false.ensures.own in
-    subst (Serves g.K.Keep c.args.policy.now
-    (withdraw c.args.caller.now c.args.project.now c.args.number c.args.day) c.args.keep.now c.withdraw.new.self) (sym
+    subst (Serves g.K.Keep rules
+    (withdraw c.args.caller.now c.args.project.now c.args.number day) c.args.keep.now c.withdraw.new.self) (sym
     c.refused-in-Err-withdraw.ensures)
-    (withdraw_unmarked g.K.Keep c.args.policy.now c.args.caller.now c.args.project.now c.args.number c.args.day
-    c.args.keep.now c.own_mark.new.keep c.withdraw.new.self _ c.in-Err-withdraw.error
-    (sym c.decide_request.ensures ∙ c.in-Permit.is)
+    (withdraw_unmarked g.K.Keep rules c.args.caller.now c.args.project.now c.args.number day
+    c.args.keep.now c.own_mark.new.keep c.withdraw.new.self number c.in-Err-withdraw.error
+    permit
     c.in-Ok-Some-false.ensures.reads (λ s. ap (λ (w : Bool). Some w) (sym c.in-Ok-Some-false.field-0-0-test) ∙ own s)
     c.in-Err-withdraw.ensures.leaves c.in-Err-withdraw.ensures.refused)
 
 pub returns-in-Ok : goal.returns-in-Ok
-returns-in-Ok g c =
+returns-in-Ok g c = λ rules day number permit.
     let own = rw c.in-Ok-Some-false.field-0-is at c.in-Ok-Some-false.ensures.own in
-    withdraw_marks g.K.Keep c.args.policy.now c.args.caller.now c.args.project.now c.args.number c.args.day c.args.keep.now
-    c.own_mark.new.keep c.withdraw.new.self _ c.in-Ok.field-0 (sym c.decide_request.ensures ∙ c.in-Permit.is)
+    withdraw_marks g.K.Keep rules c.args.caller.now c.args.project.now c.args.number day c.args.keep.now
+    c.own_mark.new.keep c.withdraw.new.self number c.in-Ok.field-0 permit
     c.in-Ok-Some-false.ensures.reads (λ s. ap (λ (w : Bool). Some w) (sym c.in-Ok-Some-false.field-0-0-test) ∙ own s)
     c.in-Ok.ensures.leaves

@@ -10,6 +10,10 @@ use Rattle.reg_store.specs.Fit.{IsFileOf, kept_rows}
 use Rattle.reg_tables.proofs.QuietLaws.{clean_before}
 use Rattle.reg_tables.specs.Rows.{deposit_from}
 use Rattle.reg_tables.specs.Inserts.{AddsFile}
+use Rattle.ags_check.specs.Findings.{CheckedFile}
+use Rattle.reg_tables.specs.declared.memory.room.Size.{Size}
+use Rattle.reg_tables.specs.Heads.{IsSizeOf}
+use Rattle.reg_tables.proofs.MethodsLaws.{same_file}
 use Rattle.reg_tables.specs.Memory.{Agrees, IsComing}
 use Rattle.reg_tables.specs.Register.{KeepsRegister, deposits_in, text_in}
 use Rattle.reg_tables.proofs.RegisterLaws.{IsReady}
@@ -115,8 +119,11 @@ invariant_of-self-in-Ok-added-clause-agrees g c works clean =
     let old = state g.S.Store keep.connection in
     let first = clean_before old (state g.S.Store c.add_checked-added.new.conn) c.add_checked-added.ensures.crash clean in
     let its : IsComing c.make_room-room.new.self (added g c) c.in-Ok.coming = subst (λ (bytes : List ℕ). IsComing c.make_room-room.new.self (deposit_from c.args.firm.now c.args.project.now c.args.embargo bytes) c.in-Ok.coming) c.bytes.ensures.bytes c.in-Ok.ensures.coming in
+    let fit : IsFileOf keep.dictionary (added g c) c.args.checked.now = record { given = c.requires.dictionary; bytes = refl; clean = c.bytes.ensures.clean; short = c.requires.short } in
+    let sized : IsSizeOf keep.dictionary (added g c) c.in-Ok.coming.known.size = λ file its_own.
+    (ap (λ (s : Size). s.rows) c.in-Ok.ensures.size ∙ c.of-size.ensures ∙ ap (λ (f : CheckedFile). f.graph.rows) (same_file keep.dictionary (added g c) c.args.checked.now file fit its_own)) in
     subst (λ (all : List Deposit). Agrees c.push.new.self keep.dictionary all) (sym (more g c clean).list)
-    (c.push.ensures.agrees keep.dictionary (held g c) (added g c) its (c.make_room-room.ensures.agrees keep.dictionary (held g c) (keep.agrees c.requires.working first)))
+    (c.push.ensures.agrees keep.dictionary (held g c) (added g c) its sized (c.make_room-room.ensures.agrees keep.dictionary (held g c) (keep.agrees c.requires.working first)))
 
 pub returns-in-Ok-added : goal.returns-in-Ok-added
 returns-in-Ok-added g c =

@@ -1,10 +1,9 @@
 use Rattle.std.proofs.Common.{refl, sym, ◌∙◌}
 use Rattle.sqlite.specs.Held.{state}
 use Rattle.reg_tables.proofs.QuietLaws.{read_before}
-use Rattle.reg_tables.proofs.KeepLaws.{idle_at}
+use Rattle.reg_tables.proofs.KeepLaws.{idle_at, keeps_quiet}
 use Rattle.reg_tables.proofs.MethodsLaws.{rows_at}
-use Rattle.reg_tables.specs.Register.{deposits_in}
-use Rattle.reg_tables.proofs.MemoryLemmas.{agrees_noted, keeps_noted}
+use Rattle.reg_tables.proofs.MemoryLemmas.{agrees_still}
 use Rattle.reg_tables.proofs.ReadsLemmas.{reads_still}
 use Rattle.reg_tables.proofs.keep.SqlKeepKeep.rows.Goals as goal
 
@@ -17,13 +16,12 @@ invariant_of-self-clause-idle g c = c.read_lines-found.ensures.quiet.idle
 pub invariant_of-self-clause-kept : goal.invariant_of-self-clause-kept
 invariant_of-self-clause-kept g c works clean =
     let keep = c.args.self.now in
-    keeps_noted (state g.S.Store keep.connection) (state g.S.Store c.read_lines-found.new.conn) keep.memory c.note_rows.new.self keep.dictionary c.args.n (keep.kept c.requires.working) c.read_lines-found.ensures.quiet c.note_rows.ensures clean (sym c.has_store_error-self.ensures ∙ works)
+    keeps_quiet (state g.S.Store keep.connection) (state g.S.Store c.read_lines-found.new.conn) (keep.kept c.requires.working) c.read_lines-found.ensures.quiet clean (sym c.has_store_error-self.ensures ∙ works)
 
 pub invariant_of-self-clause-agrees : goal.invariant_of-self-clause-agrees
 invariant_of-self-clause-agrees g c works clean =
     let keep = c.args.self.now in
-    agrees_noted (state g.S.Store keep.connection) (state g.S.Store c.read_lines-found.new.conn) keep.memory c.note_rows.new.self keep.dictionary c.args.n (keep.agrees c.requires.working) c.read_lines-found.ensures.quiet c.note_rows.ensures c.requires.number
-    (λ first. rows_at (λ x. x.items) {s = state g.S.Store keep.connection} c.args.n c.read_lines-found.result (c.requires.number first).0 (keep.kept c.requires.working first) (c.read_lines-found.ensures.found clean)) clean (sym c.has_store_error-self.ensures ∙ works)
+    agrees_still (state g.S.Store keep.connection) (state g.S.Store c.read_lines-found.new.conn) keep.memory keep.dictionary (keep.agrees c.requires.working) c.read_lines-found.ensures.quiet clean (sym c.has_store_error-self.ensures ∙ works)
 
 pub returns-clause-leaves : goal.returns-clause-leaves
 returns-clause-leaves g c = reads_still (λ k. state g.S.Store k.connection) (λ k. k.dictionary) 999999 (λ k. k.has_failed) _ _ _ c.read_lines-found.ensures.quiet refl c.has_store_error-self.ensures
@@ -33,8 +31,3 @@ returns-clause-read g c clean =
     let keep = c.args.self.now in
     read_before (state g.S.Store keep.connection) (state g.S.Store c.read_lines-found.new.conn) c.read_lines-found.ensures.quiet (keep.kept c.requires.working) c.requires.number
     (λ its kept. rows_at (λ x. x.items) {s = state g.S.Store keep.connection} c.args.n c.read_lines-found.result its.0 kept (c.read_lines-found.ensures.found clean)) clean
-
-pub returns-in-Some-clause-read : goal.returns-in-Some-clause-read
-returns-in-Some-clause-read g c clean =
-    let keep = c.args.self.now in
-    λ d file at of. c.in_ok-copied.ensures ∙ c.in-Some.ensures keep.dictionary (deposits_in (state g.S.Store keep.connection).committed.trees) (keep.agrees c.requires.working clean) d file at of

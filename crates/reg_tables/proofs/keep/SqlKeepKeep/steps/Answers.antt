@@ -1,10 +1,11 @@
 use Rattle.std.proofs.Common.{refl, sym, ◌∙◌}
 use Rattle.sqlite.specs.Held.{state}
-use Rattle.reg_tables.proofs.QuietLaws.{read_before}
-use Rattle.reg_tables.proofs.KeepLaws.{idle_at}
-use Rattle.reg_tables.proofs.MethodsLaws.{graph_at}
+use Rattle.reg_tables.proofs.QuietLaws.{clean_before, read_before}
 use Rattle.reg_tables.specs.Register.{deposits_in}
-use Rattle.reg_tables.proofs.MemoryLemmas.{agrees_noted, keeps_noted}
+use Rattle.std.proofs.lemmas.Result.{IfOk-weaker}
+use Rattle.reg_tables.proofs.KeepLaws.{idle_at, keeps_quiet}
+use Rattle.reg_tables.proofs.MethodsLaws.{graph_at}
+use Rattle.reg_tables.proofs.MemoryLemmas.{agrees_still}
 use Rattle.reg_tables.proofs.ReadsLemmas.{reads_still}
 use Rattle.reg_tables.proofs.keep.SqlKeepKeep.steps.Goals as goal
 
@@ -17,13 +18,12 @@ invariant_of-self-clause-idle g c = c.read_graph-found.ensures.quiet.idle
 pub invariant_of-self-clause-kept : goal.invariant_of-self-clause-kept
 invariant_of-self-clause-kept g c works clean =
     let keep = c.args.self.now in
-    keeps_noted (state g.S.Store keep.connection) (state g.S.Store c.read_graph-found.new.conn) keep.memory c.note_graph.new.self keep.dictionary c.args.n (keep.kept c.requires.working) c.read_graph-found.ensures.quiet c.note_graph.ensures clean (sym c.has_store_error-self.ensures ∙ works)
+    keeps_quiet (state g.S.Store keep.connection) (state g.S.Store c.read_graph-found.new.conn) (keep.kept c.requires.working) c.read_graph-found.ensures.quiet clean (sym c.has_store_error-self.ensures ∙ works)
 
 pub invariant_of-self-clause-agrees : goal.invariant_of-self-clause-agrees
 invariant_of-self-clause-agrees g c works clean =
     let keep = c.args.self.now in
-    agrees_noted (state g.S.Store keep.connection) (state g.S.Store c.read_graph-found.new.conn) keep.memory c.note_graph.new.self keep.dictionary c.args.n (keep.agrees c.requires.working) c.read_graph-found.ensures.quiet c.note_graph.ensures c.requires.number
-    (λ first. graph_at {s = state g.S.Store keep.connection} c.args.n c.read_graph-found.result (c.requires.number first).0 (keep.kept c.requires.working first) (c.read_graph-found.ensures.rows clean) (c.read_graph-found.ensures.steps clean)) clean (sym c.has_store_error-self.ensures ∙ works)
+    agrees_still (state g.S.Store keep.connection) (state g.S.Store c.read_graph-found.new.conn) keep.memory keep.dictionary (keep.agrees c.requires.working) c.read_graph-found.ensures.quiet clean (sym c.has_store_error-self.ensures ∙ works)
 
 pub returns-clause-leaves : goal.returns-clause-leaves
 returns-clause-leaves g c = reads_still (λ k. state g.S.Store k.connection) (λ k. k.dictionary) 999999 (λ k. k.has_failed) _ _ _ c.read_graph-found.ensures.quiet refl c.has_store_error-self.ensures
@@ -31,10 +31,9 @@ returns-clause-leaves g c = reads_still (λ k. state g.S.Store k.connection) (λ
 pub returns-clause-read : goal.returns-clause-read
 returns-clause-read g c clean =
     let keep = c.args.self.now in
+    let old = state g.S.Store keep.connection in
+    let first = clean_before old (state g.S.Store c.read_graph-found.new.conn) c.read_graph-found.ensures.quiet.survives clean in
     read_before (state g.S.Store keep.connection) (state g.S.Store c.read_graph-found.new.conn) c.read_graph-found.ensures.quiet (keep.kept c.requires.working) c.requires.number
-    (λ its kept. graph_at {s = state g.S.Store keep.connection} c.args.n c.read_graph-found.result its.0 kept (c.read_graph-found.ensures.rows clean) (c.read_graph-found.ensures.steps clean)) clean
-
-pub returns-in-Some-clause-read : goal.returns-in-Some-clause-read
-returns-in-Some-clause-read g c clean =
-    let keep = c.args.self.now in
-    λ d file at of. c.in_ok-copied.ensures ∙ c.in-Some.ensures keep.dictionary (deposits_in (state g.S.Store keep.connection).committed.trees) (keep.agrees c.requires.working clean) d file at of
+    (λ its kept. graph_at {s = old} c.args.n c.read_graph-found.result its.0 kept
+    (IfOk-weaker c.read_graph-found.result _ _ (λ graph same d file at of. same ∙ c.row_count-rows.ensures keep.dictionary (deposits_in old.committed.trees) (keep.agrees c.requires.working first) its.0 d file at of) c.read_graph-found.ensures.rows)
+    (c.read_graph-found.ensures.steps clean)) clean

@@ -17,12 +17,12 @@ invariant_of-self-clause-idle g c = c.read_targets-found.ensures.quiet.idle
 pub invariant_of-self-clause-kept : goal.invariant_of-self-clause-kept
 invariant_of-self-clause-kept g c works clean =
     let keep = c.args.self.now in
-    keeps_noted (state g.S.Store keep.connection) (state g.S.Store c.read_targets-found.new.conn) keep.memory c.note_targets.new.self keep.dictionary c.args.n (keep.kept c.requires.working) c.read_targets-found.ensures.quiet c.note_targets.ensures clean (sym c.has_store_error-self.ensures ∙ works)
+    keeps_noted (state g.S.Store keep.connection) (state g.S.Store c.read_targets-found.new.conn) keep.memory c.note_targets.new.self keep.dictionary (keep.kept c.requires.working) c.read_targets-found.ensures.quiet c.note_targets.ensures clean (sym c.has_store_error-self.ensures ∙ works)
 
 pub invariant_of-self-clause-agrees : goal.invariant_of-self-clause-agrees
 invariant_of-self-clause-agrees g c works clean =
     let keep = c.args.self.now in
-    agrees_noted (state g.S.Store keep.connection) (state g.S.Store c.read_targets-found.new.conn) keep.memory c.note_targets.new.self keep.dictionary c.args.n (keep.agrees c.requires.working) c.read_targets-found.ensures.quiet c.note_targets.ensures c.requires.number
+    agrees_noted (state g.S.Store keep.connection) (state g.S.Store c.read_targets-found.new.conn) keep.memory c.note_targets.new.self keep.dictionary (keep.agrees c.requires.working) c.read_targets-found.ensures.quiet c.note_targets.ensures
     (λ first. targets_at (λ x. x.items) {s = state g.S.Store keep.connection} {dictionary = keep.dictionary} c.args.n c.args.row c.read_targets-found.result (c.requires.number first).0 (keep.kept c.requires.working first) (c.read_targets-found.ensures.found clean)) clean (sym c.has_store_error-self.ensures ∙ works)
 
 pub returns-clause-leaves : goal.returns-clause-leaves

@@ -10,7 +10,7 @@ returns-then-is_known-clause-agrees c = λ dictionary list agrees.
     let its = c.is_known.ensures.0 c.if-is_known.true in
     let low : n - 1 < length known = omega (arith, its.0, its.1) in
     let at : slice_get known (n - 1) ≡ Some c.index_mut.result.now = slice_get_read known (length known) (n - 1) c.index_mut.result.now refl low c.index_mut.ensures.value in
-    agrees_mark c.args.self.now _ dictionary list n c.index_mut.result.now its.0 at refl refl refl refl agrees
+    agrees_mark c.args.self.now _ dictionary list n c.index_mut.result.now its.0 at refl refl agrees
 
 pub returns-else-is_known-clause-agrees : goal.returns-else-is_known-clause-agrees
 returns-else-is_known-clause-agrees c = λ dictionary list agrees.

@@ -15,16 +15,14 @@ returns-in-Ok-clone c =
     let its = c.is_known.ensures.0 c.if-not-is_known.false in
     let low : n - 1 < length known = omega (arith, its.0, its.1) in
     record {
-      long = length-set known (n - 1) (record { head = old.head; project = Some c.in-Ok-clone.row; alone = old.alone });
-      agrees = λ dictionary list number read agrees.
+      long = length-set known (n - 1) (record { head = old.head; size = old.size; project = Some c.in-Ok-clone.row; alone = old.alone });
+      agrees = λ dictionary list read agrees.
           (let told = subst (λ r. IfOk r (λ found. OfDeposit dictionary (sents list) n (HasProjectRow found))) c.in-Ok.is read in
           record {
-            known = known_set dictionary list known (n - 1) (record { head = old.head; project = Some c.in-Ok-clone.row; alone = old.alone }) agrees.known (λ d at.
+            known = known_set dictionary list known (n - 1) (record { head = old.head; size = old.size; project = Some c.in-Ok-clone.row; alone = old.alone }) agrees.known (λ d at.
                 (let was = known_here dictionary list known (n - 1) old d agrees.known low c.index_mut.ensures.value at in
-                record { head = was.head; project = λ row is file of. sym is ∙ ap Some c.in-Ok-clone.ensures ∙ sym c.in-Some.is ∙ told d.sent file (sent_at list (n - 1) d at) of; alone = was.alone }));
+                record { head = was.head; size = was.size; project = λ row is file of. sym is ∙ ap Some c.in-Ok-clone.ensures ∙ sym c.in-Some.is ∙ told d.sent file (sent_at list (n - 1) d at) of; alone = was.alone }));
             digests = agrees.digests;
             below = agrees.below;
-            rows = agrees.rows;
-            graph = agrees.graph;
           });
     }

@@ -23,16 +23,14 @@ returns-then-is_known c =
     let zero : length c.in-Ok.targets.items ≡ 0 = search rules in
     let none : c.in-Ok.targets.items ≡ [] = no_items c.in-Ok.targets.items zero in
     record {
-      long = length-set known (n - 1) (record { head = old.head; project = old.project; alone = Some c.args.row });
-      agrees = λ dictionary list number read agrees.
+      long = length-set known (n - 1) (record { head = old.head; size = old.size; project = old.project; alone = Some c.args.row });
+      agrees = λ dictionary list read agrees.
           (let told = subst (λ r. IfOk r (λ targets. OfDeposit dictionary (sents list) n (HasTargets c.args.row targets))) c.in-Ok.is read in
           record {
-            known = known_set dictionary list known (n - 1) (record { head = old.head; project = old.project; alone = Some c.args.row }) agrees.known (λ d at.
+            known = known_set dictionary list known (n - 1) (record { head = old.head; size = old.size; project = old.project; alone = Some c.args.row }) agrees.known (λ d at.
                 (let was = known_here dictionary list known (n - 1) old d agrees.known low c.index_mut.ensures.value at in
-                record { head = was.head; project = was.project; alone = λ row is file of. subst (λ r. HasNoTarget r file) (same_Some c.args.row row is) (sym none ∙ told d.sent file (sent_at list (n - 1) d at) of) }));
+                record { head = was.head; size = was.size; project = was.project; alone = λ row is file of. subst (λ r. HasNoTarget r file) (same_Some c.args.row row is) (sym none ∙ told d.sent file (sent_at list (n - 1) d at) of) }));
             digests = agrees.digests;
             below = agrees.below;
-            rows = agrees.rows;
-            graph = agrees.graph;
           });
     }

@@ -1,7 +1,7 @@
 use Rattle.std.proofs.Common.{◌≡◌, take}
-use Rattle.reg_tables.proofs.Known.{marked_known}
+use Rattle.reg_tables.proofs.Known.{with_marks}
 use Rattle.reg_tables.proofs.memory.Memory.of.Given as goal
 
--- of the deposits so far nothing was read
+-- the first deposits have their marks
 abbrev pub invariant-loop-at : goal.invariant-loop-at
-invariant-loop-at l = l.known.items ≡ marked_known (take l.at l.heads) (take l.at l.marks)
+invariant-loop-at l = l.known.items ≡ with_marks (take l.at l.marks) l.fn.found.known.items

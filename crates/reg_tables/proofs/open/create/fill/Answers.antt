@@ -27,6 +27,15 @@ returns-then-not-is_autocommit-clause-same g c = λ _ _. (refl, refl, refl)
 pub returns-then-not-is_autocommit-clause-still : goal.returns-then-not-is_autocommit-clause-still
 returns-then-not-is_autocommit-clause-still g c = λ _ is_open. (is_open, refl, refl)
 
+pub returns-then-is_err-clause-left : goal.returns-then-is_err-clause-left
+returns-then-is_err-clause-left g c = survives_same (state g.S.Store c.args.conn.now)
+
+pub returns-then-is_err-clause-same : goal.returns-then-is_err-clause-same
+returns-then-is_err-clause-same g c = λ _ _. (refl, refl, refl)
+
+pub returns-then-is_err-clause-still : goal.returns-then-is_err-clause-still
+returns-then-is_err-clause-still g c = λ _ is_open. (is_open, refl, refl)
+
 pub change_tables-requires-clause-settled : goal.change_tables-requires-clause-settled
 change_tables-requires-clause-settled g c clean is_open = sym (c.is_autocommit.ensures.settled (search rules) is_open)
 

@@ -1,14 +1,14 @@
-use Rattle.std.proofs.Common.{rules, arith, ◌≡◌, ◌+◌, ◌∙◌, true, false, Ok, length, map, refl, sym, ap, subst}
+use Rattle.std.proofs.Common.{rules, arith, ◌≡◌, ◌+◌, ◌∙◌, true, false, List, [], Ok, Some, length, refl, slice_get, sym, ap, subst}
 use Rattle.std.proofs.lemmas.List.{length_push}
 use Rattle.sqlite.specs.Effect.{Database}
 use Rattle.sqlite.specs.Held.{state}
 use Rattle.reg_tables.specs.Digests.{AreBelow, HoldsDigests}
-use Rattle.reg_tables.specs.Heads.{IsDigestedAt, head_of}
+use Rattle.reg_tables.specs.declared.memory.Known.{Known}
+use Rattle.reg_tables.specs.Heads.{HoldsKnown, IsDigestedAt}
 use Rattle.reg_tables.proofs.QuietLaws.{clean_before, idle_then, quiet_none, quiet_then}
 use Rattle.reg_tables.specs.Whole.{IsWhole}
 use Rattle.reg_tables.proofs.ExamineLemmas.{tests_all, tests_false, tests_true, whole_more, whole_not}
-use Rattle.std.proofs.lemmas.List.{take_all}
-use Rattle.reg_tables.proofs.HeadsLemmas.{heads_read}
+use Rattle.reg_tables.proofs.HeadsLemmas.{known_read}
 use Rattle.reg_tables.proofs.RepeatsLemmas.{below_more, held_more, none_below}
 use Rattle.reg_tables.proofs.open.deposits.examine_deposits.Goals as goal
 
@@ -18,7 +18,7 @@ loop-at-init g c = record {
   still = quiet_none (state g.S.Store c.args.conn.now) false c.requires.idle.idle;
   whole = λ clean k low. absurd (omega (arith, low));
   long = ap length c.requires.none;
-  heads = λ clean list there low. c.requires.none;
+  known = λ clean k one at. absurd (let none : slice_get {X = Known} [] k ≡ Some one = subst (λ (all : List Known). slice_get all k ≡ Some one) c.requires.none at in cc);
   below = none_below c.args.digests.now (0 + 1) c.requires.no_digests;
   digested = λ clean m low high. absurd (omega (arith, low, high));
 }
@@ -46,15 +46,15 @@ loop-at-preserved g c =
       whole = λ clean.
           (let early = clean_before mid new one.quiet.survives clean in
           whole_more old.now mid.now c.args.dictionary.now at (was.still.same early refl).0 (tests_true is (one.tested clean)) (was.whole early));
-      long = ap length put.1 ∙ length_push c.loop-at.heads.items put.0.head ∙ ap (λ n. n + 1) was.long;
-      heads = λ clean list there low.
+      long = ap length put.1 ∙ length_push c.loop-at.known.items put.0.known ∙ ap (λ n. n + 1) was.long;
+      known = λ clean.
           (let early = clean_before mid new one.quiet.survives clean in
-          let its = subst (λ (db : Database). IsDigestedAt db (at + 1) put.0) (was.still.same early refl).0 (put.3 clean) in
-          put.1 ∙ heads_read old.now c.loop-at.heads.items put.0.head at list (was.heads early list there (omega (arith, low))) (λ d row. (its d row).0) there (omega (arith, low)));
+          let its = subst (λ (db : Database). IsDigestedAt db c.args.dictionary.now (at + 1) put.0) (was.still.same early refl).0 (put.3 clean) in
+          subst (HoldsKnown old.now c.args.dictionary.now) (sym put.1) (known_read old.now c.args.dictionary.now c.loop-at.known.items put.0.known at was.long (was.known early) (λ d row. (its d row).0)));
       below = below_more c.loop-at.digests c.examine_deposit.new.digests put.0.digest (at + 1) (omega arith) put.2 was.below;
       digested = λ clean.
           (let early = clean_before mid new one.quiet.survives clean in
-          let its = subst (λ (db : Database). IsDigestedAt db (at + 1) put.0) (was.still.same early refl).0 (put.3 clean) in
+          let its = subst (λ (db : Database). IsDigestedAt db c.args.dictionary.now (at + 1) put.0) (was.still.same early refl).0 (put.3 clean) in
           held_more old.now c.loop-at.digests c.examine_deposit.new.digests put.0.digest (at + 1) put.2 (λ d row. (its d row).1) (was.digested early));
     }
 
@@ -81,10 +81,8 @@ returns-clause-tested g c clean =
 pub returns-clause-long : goal.returns-clause-long
 returns-clause-long g c is = c.loop-at.invariant.long ∙ search rules
 
-pub returns-clause-heads : goal.returns-clause-heads
-returns-clause-heads g c clean is list there long =
-    let end : c.loop-at.at ≡ c.args.count = search rules in
-    c.loop-at.invariant.heads clean list there (omega (arith, end, long)) ∙ ap (map head_of) (take_all c.loop-at.at list (omega (arith, end, long)))
+pub returns-clause-known : goal.returns-clause-known
+returns-clause-known g c clean is = c.loop-at.invariant.known clean
 
 pub returns-clause-below : goal.returns-clause-below
 returns-clause-below g c is =

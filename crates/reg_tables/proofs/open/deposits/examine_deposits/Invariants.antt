@@ -1,12 +1,8 @@
-use Rattle.std.proofs.Common.{◌≡◌, ◌+◌, ◌<◌, ◌≤◌, ℕ, List, length, take, false}
-use Rattle.std.specs.List.Sorted.{IsPermutation}
+use Rattle.std.proofs.Common.{◌≡◌, ◌+◌, ◌<◌, ℕ, length, false}
 use Rattle.sqlite.specs.State.{HasCleanDisk}
 use Rattle.sqlite.specs.Held.{state}
-use Rattle.reg_store.specs.Sent.{Sent}
-use Rattle.reg_tables.specs.Rows.{deposit_table}
-use Rattle.reg_tables.specs.Register.{deposit_rows}
 use Rattle.reg_tables.specs.Digests.{AreBelow, HoldsDigests}
-use Rattle.reg_tables.specs.Heads.{AreHeads}
+use Rattle.reg_tables.specs.Heads.{HoldsKnown}
 use Rattle.reg_tables.specs.Quiet.{IsIdle, IsStill}
 use Rattle.reg_tables.specs.Whole.{IsWhole}
 use Rattle.reg_tables.proofs.open.deposits.examine_deposits.Given as goal
@@ -19,8 +15,8 @@ invariant-loop-at g l =
       idle : IsIdle now;
       still : IsStill old now false;
       whole : HasCleanDisk now → (k : ℕ) → k < l.at → ∥ IsWhole old.now l.dictionary (k + 1) ∥₁;
-      long : length l.heads.items ≡ l.at;
-      heads : HasCleanDisk now → (list : List Sent) → IsPermutation (deposit_rows 1 list) (deposit_table old.now.trees) → l.at ≤ length list → AreHeads l.heads.items (take l.at list);
+      long : length l.known.items ≡ l.at;
+      known : HasCleanDisk now → HoldsKnown old.now l.dictionary l.known.items;
       below : AreBelow l.digests (l.at + 1);
       digested : HasCleanDisk now → HoldsDigests old.now (l.at + 1) l.digests;
     }

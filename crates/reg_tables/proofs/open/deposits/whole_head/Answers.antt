@@ -28,7 +28,7 @@ returns-in-Ok-take_deposit-clause-head g c clean =
     let d = sent_of c.in-Ok-take_deposit.kept in
     let rows = c.in-Ok.rows.items in
     let read : rows ≡ given_deposit c.args.number d ∷ [] = c.in-Ok-take_deposit.ensures.read in
-    head_shown c.kept_head.result (state g.S.Store c.args.conn.now).now c.args.number d rows (c.in-Ok.ensures.found early) read c.kept_head.ensures.head
+    head_shown c.kept_head.result (state g.S.Store c.args.conn.now).now c.args.dictionary.now c.args.number d rows (c.in-Ok.ensures.found early) read c.kept_head.ensures.head
 
 pub returns-in-Ok-take_deposit-clause-quiet : goal.returns-in-Ok-take_deposit-clause-quiet
 returns-in-Ok-take_deposit-clause-quiet g c = quiet_then _ _ _ _ c.in-Ok.ensures.quiet c.kept_head.ensures.quiet

@@ -4,7 +4,7 @@ use Rattle.sqlite.specs.Held.{state}
 use Rattle.reg_tables.proofs.QuietLaws.{clean_before, idle_then, quiet_then}
 use Rattle.reg_tables.specs.Adoption.{CountsDeposits, Examines, InEachFormat}
 use Rattle.reg_tables.specs.Digests.{HoldsDigests}
-use Rattle.reg_tables.specs.Heads.{HoldsHeads}
+use Rattle.reg_tables.specs.Heads.{HoldsKnown}
 use Rattle.reg_tables.proofs.ExamineLemmas.{meta_examines}
 use Rattle.reg_tables.proofs.open.examine.examine.Goals as goal
 
@@ -23,10 +23,10 @@ returns-in-Ok-read_register-clause-examines g c clean =
     subst (λ (db : Database). InEachFormat db c.in-Ok.dictionary (λ format. CountsDeposits format db c.in-Ok.dictionary (Some c.in-Ok-read_register.count))) (c.in-Ok.ensures.quiet.same early refl).0
     (c.in-Ok-read_register.ensures.found clean) c.args.format (c.requires.schema first) (c.in-Ok.ensures.read early)
 
-pub returns-in-Ok-read_register-clause-heads : goal.returns-in-Ok-read_register-clause-heads
-returns-in-Ok-read_register-clause-heads g c clean =
+pub returns-in-Ok-read_register-clause-known : goal.returns-in-Ok-read_register-clause-known
+returns-in-Ok-read_register-clause-known g c clean =
     let early = clean_before (state g.S.Store c.read_dictionary.new.conn) (state g.S.Store c.read_register.new.conn) c.read_register.ensures.quiet.survives clean in
-    subst (λ (db : Database). HoldsHeads db c.in-Ok-read_register.count c.read_register.new.heads.items) (c.in-Ok.ensures.quiet.same early refl).0 (c.in-Ok-read_register.ensures.heads clean)
+    subst (λ (db : Database). HoldsKnown db c.in-Ok.dictionary c.read_register.new.known.items) (c.in-Ok.ensures.quiet.same early refl).0 (c.in-Ok-read_register.ensures.known clean)
 
 pub returns-in-Ok-read_register-clause-digests : goal.returns-in-Ok-read_register-clause-digests
 returns-in-Ok-read_register-clause-digests g c clean =

@@ -5,7 +5,7 @@ use Rattle.reg_tables.specs.Adoption.{Examines}
 use Rattle.reg_tables.proofs.QuietLaws.{clean_before, idle_then, quiet_then}
 use Rattle.reg_tables.specs.Whole.{AreWhole, Counts, Tests}
 use Rattle.reg_tables.specs.Digests.{HoldsDigests}
-use Rattle.reg_tables.specs.Heads.{HoldsHeads}
+use Rattle.reg_tables.specs.Heads.{HoldsKnown}
 use Rattle.reg_tables.proofs.ExamineLemmas.{finds_none, finds_whole, none_examines, tests_false, tests_true}
 use Rattle.reg_tables.proofs.QueryLemmas.{fault_is, fault_quiet}
 use Rattle.reg_tables.proofs.open.examine.read_register.Goals as goal
@@ -31,12 +31,12 @@ returns-in-Ok-true-clause-found g c clean format schema meta =
     let test = subst (λ (db : Database). Tests true (AreWhole db c.args.dictionary.now count)) (c.in-Ok-Some.ensures.quiet.same early refl).0 (tests_true is (c.in-Ok-true.ensures.tested clean)) in
     finds_whole format old.now c.args.dictionary.now count schema (c.requires.sound first) meta counts (test.yes refl)
 
-pub returns-in-Ok-true-clause-heads : goal.returns-in-Ok-true-clause-heads
-returns-in-Ok-true-clause-heads g c clean =
+pub returns-in-Ok-true-clause-known : goal.returns-in-Ok-true-clause-known
+returns-in-Ok-true-clause-known g c clean =
     let mid = state g.S.Store c.read_count.new.conn in
     let early = clean_before mid (state g.S.Store c.examine_deposits.new.conn) c.examine_deposits.ensures.quiet.survives clean in
     let is : c.in-Ok-true.field-0 ≡ true = search rules in
-    subst (λ (db : Database). HoldsHeads db c.in-Ok-Some.count c.examine_deposits.new.heads.items) (c.in-Ok-Some.ensures.quiet.same early refl).0 (c.in-Ok-true.ensures.heads clean (ap Ok is))
+    subst (λ (db : Database). HoldsKnown db c.args.dictionary.now c.examine_deposits.new.known.items) (c.in-Ok-Some.ensures.quiet.same early refl).0 (c.in-Ok-true.ensures.known clean (ap Ok is))
 
 pub returns-in-Ok-true-clause-digests : goal.returns-in-Ok-true-clause-digests
 returns-in-Ok-true-clause-digests g c clean =

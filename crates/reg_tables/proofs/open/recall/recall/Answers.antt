@@ -27,17 +27,16 @@ returns-in-Err-read_marks-clause-refused g c clean =
     refused_marks old.now c.in-Ok.found.0 c.in-Ok.found.1 c.in-Err-read_marks.error (c.in-Ok.ensures.examines early)
     (subst (λ (db : Database). FindsMarks c.in-Ok.found.1 db (Err c.in-Err-read_marks.error)) same (c.in-Err-read_marks.ensures.found clean))
 
-pub returns-in-Ok-of-clause-found : goal.returns-in-Ok-of-clause-found
-returns-in-Ok-of-clause-found g c clean =
+pub returns-clause-found : goal.returns-clause-found
+returns-clause-found g c clean =
     let old = state g.S.Store c.args.conn.now in
     let count = c.in-Ok.found.1 in
-    let heads = c.examine.new.heads.items in
+    let found = c.examine.new.found in
     let marks = c.in-Ok-read_marks.marks.items in
     let early = clean_before (state g.S.Store c.examine.new.conn) (state g.S.Store c.read_marks.new.conn) c.in-Ok-read_marks.ensures.quiet.survives clean in
     let same = (c.in-Ok.ensures.quiet.same early refl).0 in
     let held = subst (λ (db : Database). HoldsMarks count db marks) same (c.in-Ok-read_marks.ensures.found clean) in
-    let its_heads : c.deref.result.now ≡ heads = search rules in
-    let its_marks : c.deref-2.result.now ≡ marks = search rules in
+    let its_marks : c.deref.result.now ≡ marks = search rules in
     let read = c.in-Ok.ensures in
-    recalled old.now c.in-Ok.found.0 count heads marks c.examine.new.digests c.in-Ok-of.memory (read.examines early) (read.heads early) (read.digests early) read.below read.long held (search (rules, c.in-Ok-of.ensures.long, its_heads))
-    (λ list are marks_are digested below. c.in-Ok-of.ensures.agrees c.in-Ok.found.0 list (its_heads ∙ are) (its_marks ∙ marks_are) digested below)
+    recalled old.now c.in-Ok.found.0 count found.known.items marks found.digests c.of.result (read.examines early) (read.known early) (read.digests early) read.below read.long held c.of.ensures.long
+    (λ list are marks_are digested below. c.of.ensures.agrees c.in-Ok.found.0 list are (its_marks ∙ marks_are) digested below)

@@ -1,0 +1,231 @@
+#!/usr/bin/env python3
+"""Registers under limits of memory: what was taken under a limit can be opened under it.
+
+usage: conformance/room.py PROGRAM [MB..]      the last line is 'N passed, M failed'
+       conformance/room.py PROGRAM --measure   the address space that registers take, for the constants of
+                                               crates/reg_tables/src/memory/room.rt
+
+Under each limit of address space (48, 96 and 256 MB where none is named) `serve` is given deposits of a kind until one
+is answered `out of memory`: of 1 kB, of 1 MB, and of 20 kB with many steps. The listing goes on. Then, under the same
+limit, a start lists as many deposits as there were receipts, draws the first one whole, and takes a deposit more or
+answers `out of memory`; a start after that lists what has a receipt. No less than half of the limit is used: the least
+limit under which the register opens is printed and counted. The same for `init` with a dictionary, and for `migrate`."""
+import os
+import resource
+import sqlite3
+import sys
+import tempfile
+sys.dont_write_bytecode = True
+sys.path.insert(0, os.path.join(os.path.dirname(os.path.abspath(__file__)), "..", "bench"))
+import dictionaries  # noqa: E402
+import files  # noqa: E402
+import servers  # noqa: E402
+from servers import asking, head, post, sample  # noqa: E402
+
+MB = 1 << 20
+LIMITS = (48, 96, 256)
+LISTING = head(b"/v1/projects/N1/deposits", [])
+OUT_OF_MEMORY = (b"", b"groundreg: out of memory\n", 5)
+NAME = b"North bank"
+
+
+def small(number):
+    return sample("delta.ags").replace(b"FINAL", b"FINAL %d" % number)
+
+
+def renamed(text):
+    """That file for each number, with another name of the project."""
+    return lambda number: text.replace(NAME, b"Site %05d" % number)
+
+
+# The files of each kind, by number.
+KINDS = {"1 kB": small, "1 MB": renamed(files.deep(MB)), "steps": renamed(files.steps(20_000))}
+
+
+def limit_of(size):
+    """What limits the address space of a start to so many bytes."""
+    return lambda: resource.setrlimit(resource.RLIMIT_AS, (size, size))
+
+
+class Place(servers.Place):
+    """A place whose starts are under a limit of so many bytes."""
+
+    def __init__(self, program, folder, limit, dictionary=None):
+        for name in os.listdir(folder):
+            os.remove(os.path.join(folder, name))
+        super().__init__(program, folder, *(sample(name).decode() for name in ("policy.toml", "callers.toml")),
+                         {"dictionary": dictionary or dictionaries.small()})
+        self.limit = limit
+
+    def limited(self, *words, limit=None):
+        return self.run(*words, preexec_fn=limit_of(limit or self.limit))
+
+    def least(self, *words):
+        """The least limit in MB under which this start ends with 0."""
+        low, high = 4, self.limit // MB
+        while low + 1 < high:
+            middle = (low + high) // 2
+            out, said, status = self.limited(*words, limit=middle * MB)
+            low, high = (low, middle) if status == 0 else (middle, high)
+        return high
+
+
+def filled(place, file_of):
+    """The files that a server took until it was out of memory, and what it answered to a listing then."""
+    taken, listed = [], b""
+    with place.serve(None, preexec_fn=limit_of(place.limit)) as server:
+        while True:
+            data = file_of(len(taken))
+            reply = server.ask(post(b"deposits", data))
+            if b" 200 " not in reply[:16]:
+                break
+            taken.append(data)
+        listed = server.ask(LISTING)
+    return taken, reply, listed
+
+
+def try_kind(place, kind, name):
+    file_of = KINDS[kind]
+    taken, reply, listed = filled(place, file_of)
+    place.check(f"{name}: what is refused", b"HTTP/1.1 503", reply[:12])
+    place.check(f"{name}: the listing after it", len(taken), listed.count(b'"number"'))
+    out, said, status = place.limited(*asking("list"))
+    place.check(f"{name}: a start, and its lines", (len(taken), b"", 0), (out.count(b"\n"), said, status))
+    if not taken:
+        return
+    out, said, status = place.limited(*asking("extract", "1"))
+    place.check(f"{name}: the first deposit", (taken[0].rstrip(b"\r\n"), b"", 0), (out.rstrip(b"\r\n"), said, status))
+    place.put("more", small(10**6))
+    out, said, status = place.limited(*asking("deposit", "more", embargo=servers.DAY))
+    more = (out, said, status) != OUT_OF_MEMORY
+    place.check(f"{name}: a deposit more", ((b"receipt %d %s\n" % (len(taken) + 1, servers.DAY.encode()), b"", 0)
+                                            if more else OUT_OF_MEMORY), (out, said, status))
+    out, said, status = place.limited(*asking("list"))
+    place.check(f"{name}: a start after it", (len(taken) + more, b"", 0), (out.count(b"\n"), said, status))
+    least = place.least(*asking("list"))
+    print(f"{name}: {len(taken)} deposits of {len(taken[0])} bytes; opened under {least} MB", flush=True)
+    place.check(f"{name}: half of the limit is used", True, 2 * least * MB >= place.limit)
+
+
+def try_dictionary(place, name):
+    """A dictionary is taken under a limit only where the register then opens under it."""
+    words = ["init", "--store=register", "--dictionary=dictionary"]
+    taken = 0
+    for size in range(8, place.limit // MB, 2):
+        out, said, status = place.limited(*words, limit=size * MB)
+        if status:
+            place.check(f"{name}: {size} MB", OUT_OF_MEMORY, (out, said, status))
+            place.check(f"{name}: no register at {size} MB", False, has_tables(place))
+        else:
+            opened = place.limited(*asking("list"), limit=size * MB)
+            place.check(f"{name}: opened under {size} MB", (b"", b"", 0), opened)
+            taken += 1
+        for end in ("", "-wal"):
+            if os.path.exists(place.path("register" + end)):
+                os.remove(place.path("register" + end))
+    place.check(f"{name}: taken under some", True, taken > 0)
+
+
+def has_tables(place):
+    if not os.path.exists(place.path("register")):
+        return False
+    place.copy("register", "copy")
+    connection = sqlite3.connect(place.path("copy"))
+    count = connection.execute("SELECT count(*) FROM sqlite_master").fetchone()[0]
+    connection.close()
+    return count > 0
+
+
+def try_migrate(place, name):
+    """A register of format 1 is migrated under a limit only where it then opens under it."""
+    place.make(dictionary="dictionary")
+    place.put("given", files.deep(MB))
+    place.right(*asking("deposit", "given", embargo=servers.DAY))
+    place.copy_as_format_1("register", "first")
+    taken = 0
+    for size in range(10, 60, 2):
+        place.copy("first", "register")
+        out, said, status = place.limited("migrate", "--store=register", limit=size * MB)
+        if status:
+            place.check(f"{name}: {size} MB", OUT_OF_MEMORY, (out, said, status))
+        else:
+            out, said, status = place.limited(*asking("list"), limit=size * MB)
+            place.check(f"{name}: opened under {size} MB", (1, b"", 0), (out.count(b"\n"), said, status))
+            taken += 1
+    place.check(f"{name}: migrated under some", True, taken > 0)
+
+
+# ---- measuring
+
+def space_of(server):
+    """Greatest address space of a process so far, and that of now, in bytes."""
+    with open(f"/proc/{server.process.pid}/status", encoding="ascii") as file:
+        lines = dict(line.split(":", 1) for line in file)
+    return tuple(int(lines[name].split()[0]) * 1024 for name in ("VmPeak", "VmSize"))
+
+
+def opened(place):
+    with place.serve(1) as server:
+        return space_of(server)
+
+
+def counts(place):
+    """Deposits, bytes, rows and steps of a register."""
+    place.copy("register", "copy")
+    connection = sqlite3.connect(place.path("copy"))
+    found = [connection.execute(f"SELECT {what}").fetchone()[0] for what in (
+        "count(*) FROM deposits", "sum(length(body)) FROM deposits", "count(*) FROM lines", "count(*) FROM steps")]
+    connection.close()
+    return found
+
+
+def measure(program):
+    print("register | deposits, bytes, rows, steps | empty: peak, now | as it took them: peak, now | opened: peak, now")
+    mini = dictionaries.small()
+    for name, dictionary, make, size, count in [
+            ("1 kB", mini, lambda size: None, 0, 1000), ("deep", mini, files.deep, MB, 6),
+            ("deep, one", mini, files.deep, 4 * MB, 1), ("flat", mini, files.flat, MB, 6),
+            ("flat, one", mini, files.flat, 4 * MB, 1), ("ring", mini, files.ring, MB, 6),
+            ("steps", mini, files.steps, 20_000, 4), ("steps, one", mini, files.steps, 40_000, 1),
+            ("narrow", mini, files.narrow, MB, 1), ("wide", mini, files.wide, MB, 1),
+            ("children", mini, files.children, MB, 1), ("160 groups", dictionaries.large(), lambda size: None, 0, 1),
+            ("1,000 groups", dictionaries.large(1000, 100_000), lambda size: None, 0, 1)]:
+        text = make(size)
+        with tempfile.TemporaryDirectory() as folder:
+            place = Place(program, folder, 1 << 40, dictionary)
+            place.make(dictionary="dictionary")
+            empty = opened(place)
+            with place.serve(None) as server:
+                for n in range(count):
+                    reply = server.ask(post(b"deposits", renamed(text)(n) if text else small(n)))
+                    if b" 200 " not in reply[:16]:
+                        sys.exit(f"{name}: {reply[:200]}")
+                took = space_of(server)
+            print(name, len(dictionary), "|", *counts(place), "|", *empty, "|", *took, "|", *opened(place), flush=True)
+
+
+def main():
+    words = sys.argv[1:]
+    if not words:
+        sys.exit(__doc__)
+    program = os.path.abspath(words[0])
+    if "--measure" in words:
+        return measure(program)
+    passed = failed = 0
+    with tempfile.TemporaryDirectory() as folder:
+        for limit in [int(word) for word in words[1:]] or LIMITS:
+            for kind in KINDS:
+                place = Place(program, folder, limit * MB)
+                place.make(dictionary="dictionary")
+                try_kind(place, kind, f"{kind} under {limit} MB")
+                passed, failed = passed + place.passed, failed + place.failed
+        for trying, name in ((try_dictionary, "init"), (try_migrate, "migrate")):
+            place = Place(program, folder, 64 * MB, dictionaries.large(1000, 100_000))
+            trying(place, name)
+            passed, failed = passed + place.passed, failed + place.failed
+    print(f"{passed} passed, {failed} failed")
+    return failed > 0
+
+
+if __name__ == "__main__":
+    sys.exit(main())

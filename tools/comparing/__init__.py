@@ -1,0 +1,58 @@
+"""What differs between two AGS4 files, by the keys of their rows and not by their lines.
+
+    found = compare(old, new, dictionary)     # bytes; dictionary: None for the built-in one
+    found.is_same, found.counts()
+    found.groups                              # of each group that differs: rows added, gone, changed, renamed
+
+Bytes in; nothing prints. What cannot be compared is tables.Refused, with reasons."""
+from collections import Counter
+from typing import List, NamedTuple
+
+import ags
+from tables import Refused
+from tables.layout import dictionary_of, read
+
+from .group import Differences, both, one
+from .pairs import Renames
+
+
+class Comparison(NamedTuple):
+    """The groups that differ, and whether the groups of both are in another order."""
+    groups: List[Differences]
+    is_in_other_order: bool
+
+    @property
+    def is_same(self):
+        return not self.groups and not self.is_in_other_order
+
+    def counts(self):
+        """How many rows were added, are gone, were changed, were renamed, and are spelled otherwise."""
+        out = Counter(added=0, gone=0, changed=0, renamed=0, spelled=0)
+        for group in self.groups:
+            out.update(group.counts())
+        return dict(out)
+
+
+def read_named(data, name):
+    """A file that can be compared."""
+    try:
+        return read(data)
+    except Refused as refused:
+        raise Refused(*(f"{name}: {reason}" for reason in refused.reasons)) from None
+
+
+def compare(old, new, dictionary=None, names=("the first file", "the second file")):
+    """What differs between two files. Keys and parents are those of the dictionary, and of what the files' DICT add."""
+    files = [read_named(data, name) for data, name in zip((old, new), names)]
+    words = dictionary_of(dictionary, [entry for file in files for entry in ags.own_entries(file)])
+    first, second = (file.by_name for file in files)
+    renames, found = Renames(words), {}
+    for name in sorted(first.keys() & second.keys(), key=words.depth):
+        found[name] = both(first[name], second[name], words, renames)
+    for name in first.keys() ^ second.keys():
+        found[name] = one(first.get(name), second.get(name), words)
+    for each in found.values():
+        each.renamed = [row._replace(following=renames.following[each.name, row.old_line]) for row in each.renamed]
+    order = [name for name in first] + [name for name in second if name not in first]
+    shared = [name for name in first if name in second]
+    return Comparison([found[name] for name in order if found[name]], shared != [n for n in second if n in first])
