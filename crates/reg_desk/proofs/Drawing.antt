@@ -80,6 +80,7 @@ reads_answered keep old new failed reads lives = record {
   failure = λ e. absurd (true≢false (sym (reads.failure e)));
   cause = λ s. lives s ∙ reads.cause s;
   same = λ s e. reads.same s refl;
+  same_text = λ s e. reads.same_text s refl;
   crash = reads.crash;
   whole = reads.whole;
 }

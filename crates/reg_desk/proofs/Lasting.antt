@@ -228,8 +228,8 @@ left_grows terms requests answers state list (inl h) = grows_itself state list h
 left_grows terms requests answers state list (inr h) = changes_grow terms h.0 state list h.2
 
 pub receipts_last : {K : Type 0} (keep : Ghosts K) (rules : List Rule) (old new : K) (requests : List Asked) (answers : List Answer) → Runs keep rules old new requests answers
-    → (list : List Deposit) → keep.may_leave new list → AllZip (IsHeldIn list) requests answers
-receipts_last keep rules old new requests answers runs list may =
+    → (bytes : List ℕ) (list : List Deposit) → keep.may_leave new bytes list → AllZip (IsHeldIn list) requests answers
+receipts_last keep rules old new requests answers runs bytes list may =
     let terms = terms_at keep rules old in
-    let grows = left_grows terms requests answers runs.last list (runs.left list may) in
+    let grows = left_grows terms requests answers runs.last list (runs.left bytes list may).1 in
     (lasts terms (keep.deposits old) requests answers runs.last list runs.answered grows).1

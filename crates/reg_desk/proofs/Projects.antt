@@ -1,81 +1,98 @@
--- What the row of PROJ says by itself of whether it is shown.
-use Rattle.std.proofs.Common.{◌≡◌, ℕ, zero, suc, ◌+◌, ◌<◌, Bool, true, false, if◌then◌else◌, Option, Some, None, List, [], ◌∷◌, map, filter, Contains, inl, inr, refl, sym, ap, subst, ◌∙◌, arith}
-use Rattle.std.specs.Prelude.{codes, ◌==◌, ◌-◌, ◌≤◌, slice_get, length}
-use Rattle.std.specs.List.{AllZip}
+-- What the row of PROJ and the rows that it reaches say of whether it is shown.
+use Rattle.std.proofs.Common.{◌≡◌, ◌↔◌, ℕ, zero, suc, ◌+◌, ◌<◌, All, Bool, true, false, if◌then◌else◌, Option, Some, None, List, [], ◌∷◌, ◌++◌, map, flat_map, get_or, Contains, refl, sym, ap, subst, ◌∙◌, arith}
+use Rattle.std.specs.Prelude.{codes, ◌==◌, ◌-◌, ◌≤◌, not, slice_get, length}
+use Rattle.std.specs.List.{AllByRecursion, AllZip}
 use Rattle.std.specs.Str.{bytes_eq}
-use Rattle.std.proofs.lemmas.Bool.{true≢false, and_parts, eqb-true, eqb-false}
+use Rattle.std.proofs.lemmas.Bool.{eqb-false, eqb-true, true≢false}
 use Rattle.std.proofs.lemmas.Slice.Eq.{bytes_eq-Decides}
+use Rattle.ags_rows.specs.declared.rows.Group.{Group}
+use Rattle.ags_rows.specs.declared.rows.Descriptor.TheVariants as kinds
 use Rattle.ags_rows.specs.Contents.{Contents, contents_of}
+use Rattle.ags_rows.specs.Findings.{FileGroups}
 use Rattle.ags_rows.specs.Spelling.{Spells, line_of}
-use Rattle.ags_rows.specs.Writing.{group_names}
-use Rattle.ags_rows.proofs.Lemmas.{at_contained, once_apart}
+use Rattle.ags_rows.specs.Writing.{AreUnder, IsPlainGroup, IsWellFormedGroup, group_names}
+use Rattle.ags_rows.proofs.Lemmas.{at_contained, file_is_read, once_apart, read_plain, same_fields}
 use Rattle.ags_dict.specs.Entries.{Entries}
 use Rattle.ags_rows.specs.Collecting.{At}
-use Rattle.ags_links.specs.DataRows.{DataRow, IsRowOfGroup, data_rows, rows_before}
+use Rattle.ags_links.specs.DataRows.{DataRow, IsRowOfGroup, data_rows, row_in, rows_before}
 use Rattle.ags_links.specs.Steps.{StepAt}
-use Rattle.ags_links.specs.Walks.{IsWalk}
-use Rattle.ags_links.proofs.Lemmas.{one_at, at_map, row_of_group, reach_itself, contains_cons}
+use Rattle.ags_links.specs.Walks.{HasStep, IsWalk, Reaches}
+use Rattle.ags_links.proofs.Lemmas.{one_at, at_map, row_of_group, reach_itself}
 use Rattle.ags_check.specs.Findings.{CheckedFile, IsClean, file_of}
 use Rattle.reg_store.specs.Deposit.{Deposit, sents}
-use Rattle.reg_store.specs.Fit.{IsFileOf, kept_rows}
-use Rattle.reg_store.specs.Project.{project_from, project_of, targets_of}
+use Rattle.reg_store.specs.Fit.{IsFileOf, group_rows, kept_row, kept_rows}
+use Rattle.reg_store.specs.Project.{AreProjectRows, headed_rows, project_from, project_group, project_of}
+use Rattle.reg_store.proofs.Lemmas.{kept_contents, project_at}
 use Rattle.reg_store.specs.declared.keep.Keep.{Ghosts}
+use Rattle.reg_store.specs.declared.keep.HeadedRow.{HeadedRow}
 use Rattle.reg_store.specs.declared.keep.KeptRow.{KeptRow}
-use Rattle.reg_store.specs.declared.keep.ProjectRow.{ProjectRow}
 use Rattle.reg_store.specs.Keep.{OfDeposit}
 use Rattle.reg_desk.specs.Serving.{OnlyReads}
-use Rattle.reg_desk.specs.Shown.{Look, IsPermitted, RowAt}
-use Rattle.reg_desk.specs.View.{IsLineOf, IsOpen, IsUnreadable, MayBeSeen, Sees, is_only, plain_lines, plain_row, project_line}
-use Rattle.reg_desk.proofs.Bridges.{HasAt, IsOfProject, at_first, at_later, may_law, of_first, of_later, lines_spelled, project_spelled}
+use Rattle.reg_desk.specs.Shown.{Look, IsPermitted, IsProjectShown}
+use Rattle.reg_desk.specs.View.{HeadedMayBeSeen, IsHeadedLine, Sees, headed_line}
+use Rattle.reg_desk.proofs.Bridges.{HasAt, IsOfProject, may_law, project_spelled, row_spelled}
 use Rattle.reg_desk.proofs.Clean.{clean_formed, clean_keeps}
 
--- ---- the row of PROJ among the DATA rows
+-- what is found may be seen as the policy says of the row that it spells
+headed_law : (look : Look) (h : HeadedRow) (may : Bool) → HeadedMayBeSeen look h may → (row : DataRow) → IsHeadedLine h row → (may ≡ true) ↔ IsPermitted look row
+headed_law look h may seen row is =
+    let first = seen.0 in
+    let fields : codes "GROUP" ∷ first.group ∷ [] ≡ codes "GROUP" ∷ row.group ∷ [] = same_fields h.group (codes "GROUP" ∷ first.group ∷ []) (codes "GROUP" ∷ row.group ∷ []) seen.1.above is.above in
+    let group : first.group ≡ row.group = cc in
+    may_law look (headed_line first.group h) may (first, seen.1, seen.2) row (record { group = group; above = is.above; headings = is.headings; fields = is.fields; width = is.width })
 
--- the row is at its number, counted on from this one
-abbrev StandsFrom : ℕ → List DataRow → ProjectRow → Type 0
-StandsFrom number rows project = (k : ℕ) × (project.number ≡ number + k) × HasAt rows (IsLineOf (project_line project)) k
+-- steps of a larger relation
+walk_same : (Step Other : ℕ → ℕ → Type 0) → ((r s : ℕ) → Step r s → Other r s) → (n : ℕ) (walk : List ℕ) (m : ℕ) → IsWalk Step n walk m → IsWalk Other n walk m
+walk_same Step Other wider n [] m same = same
+walk_same Step Other wider n (t ∷ walk) m steps = (wider n t steps.0, walk_same Step Other wider t walk m steps.1)
 
--- what is found from this row on: none of PROJ, or the row at its number
-abbrev IsFound : ℕ → List DataRow → Option ProjectRow → Type 0
-IsFound number rows None = (n : ℕ) → HasAt rows IsOfProject n → ⊥
-IsFound number rows (Some project) = StandsFrom number rows project
+-- what is first in a list is in it
+first_item : (found : List HeadedRow) → 0 < length found → (h : HeadedRow) × Contains found h
+first_item [] some = absurd (omega (arith, some))
+first_item (h ∷ found) some = (h, (0, omega arith, refl))
 
-none_later : (number : ℕ) (r : DataRow) (rows : List DataRow) → (IsOfProject r → ⊥) → IsFound (number + 1) rows None → IsFound number (r ∷ rows) None
-none_later number r rows other none zero at = other (of_first r rows IsOfProject at)
-none_later number r rows other none (suc n) at = none n (of_later r rows IsOfProject n at)
+-- ---- the DATA rows of a file, with the header rows above them
 
-found_later : (number : ℕ) (r : DataRow) (rows : List DataRow) (o : Option ProjectRow) → (IsOfProject r → ⊥) → IsFound (number + 1) rows o → IsFound number (r ∷ rows) o
-found_later number r rows None other found = none_later number r rows other found
-found_later number r rows (Some project) other found =
-    (suc found.0, found.1 ∙ omega arith, at_later r rows (IsLineOf (project_line project)) found.0 found.2)
+-- the headed row is that of the row, under the one spelling of its GROUP row
+abbrev IsHeaded : HeadedRow → DataRow → Type 0
+IsHeaded headed row = IsHeadedLine headed row × (headed.group ≡ line_of (codes "GROUP" ∷ row.group ∷ []))
 
-found_line : (number : ℕ) (above headings : List ℕ) (rows : List KeptRow) (found : List DataRow) → AllZip IsLineOf (plain_lines above headings rows) found
-    → IsFound number found (project_from number headings rows)
-found_line number above headings [] [] zip = λ n at. omega (arith, at.1.0)
-found_line number above headings [] (r ∷ found) zip = absurd zip
-found_line number above headings (row ∷ rows) found zip =
-    go (row.kind == 1) (row.kind == 4) (row.kind == 0) (bytes_eq row.group (codes "PROJ")) refl (λ m name heads more z. found_line m name heads rows more z) found zip
-  where
-    go : (a b c d : Bool) → bytes_eq row.group (codes "PROJ") ≡ d
-        → ((m : ℕ) (name heads : List ℕ) (more : List DataRow) → AllZip IsLineOf (plain_lines name heads rows) more → IsFound m more (project_from m heads rows))
-        → (found : List DataRow) → AllZip IsLineOf (if a then plain_lines above row.line rows
-        else (if b then plain_row above headings row ∷ plain_lines above headings rows else (if c then plain_lines row.line headings rows else plain_lines above headings rows))) found
-        → IsFound number found (if a then project_from number row.line rows else (if b
-        then (if d then Some (record { number = number; headings = headings; line = row.line }) else project_from (number + 1) headings rows) else project_from number headings rows))
-    go true b c d e more found z = more number above row.line found z
-    go false false true d e more found z = more number row.line headings found z
-    go false false false d e more found z = more number above headings found z
-    go false true c true e more (r ∷ found) z =
-        let project : ProjectRow = record { number = number; headings = headings; line = row.line } in
-        let is : codes "PROJ" ≡ r.group = sym ((bytes_eq-Decides row.group (codes "PROJ")).0 e) ∙ z.0.group in
-        let above_is : Spells (line_of (codes "GROUP" ∷ codes "PROJ" ∷ [])) (codes "GROUP" ∷ r.group ∷ []) =
-        subst (λ (g : List ℕ). Spells (line_of (codes "GROUP" ∷ codes "PROJ" ∷ [])) (codes "GROUP" ∷ g ∷ [])) is project_spelled in
-        let line : IsLineOf (project_line project) r = record { group = is; above = above_is; headings = z.0.headings; fields = z.0.fields; width = z.0.width } in
-        (0, omega arith, at_first r found (IsLineOf (project_line project)) line)
-    go false true c false e more (r ∷ found) z =
-        found_later number r found (project_from (number + 1) headings rows) (λ is. true≢false (sym ((bytes_eq-Decides row.group (codes "PROJ")).1 (z.0.group ∙ is)) ∙ e))
-        (more (number + 1) above headings found z.1)
-    go false true c d e more [] z = absurd z
+headed_data : (above heading : List ℕ) (g : Contents) (rows : List (List (List ℕ))) (rest : List KeptRow) (more : List DataRow) → AllByRecursion (AreUnder g.headings) rows → above ≡ line_of (codes "GROUP" ∷ g.name ∷ [])
+    → Spells above (codes "GROUP" ∷ g.name ∷ []) → Spells heading (codes "HEADING" ∷ g.headings) → AllZip IsHeaded (headed_rows above heading rest) more
+    → AllZip IsHeaded (headed_rows above heading (map (kept_row g.name kinds.Data) rows ++ rest)) (map (row_in g) rows ++ more)
+headed_data above heading g [] rest more under one named spelled h = h
+headed_data above heading g (fields ∷ rows) rest more under one named spelled h = (
+  (record { group = refl; above = named; headings = spelled; fields = row_spelled kinds.Data fields under.0.plain; width = under.0.count }, one),
+  headed_data above heading g rows rest more under.1 one named spelled h,
+)
+
+headed_file : (file : List Contents) (above heading : List ℕ) → AllByRecursion IsPlainGroup file → AllByRecursion IsWellFormedGroup file → AllZip IsHeaded (headed_rows above heading (flat_map group_rows file)) (data_rows file)
+headed_file [] above heading plain formed = tt
+headed_file (g ∷ file) above heading plain formed =
+    let name = line_of (codes "GROUP" ∷ g.name ∷ []) in
+    let line = line_of (codes "HEADING" ∷ g.headings) in
+    headed_data name line g g.rows (flat_map group_rows file) (data_rows file) formed.0.rows refl (row_spelled kinds.Group (g.name ∷ []) (plain.0.name, tt)) (row_spelled kinds.Heading g.headings plain.0.headings)
+    (headed_file file name line plain.1 formed.1)
+
+headed_are : (bytes : List ℕ) (groups : List Group) → FileGroups bytes groups → AllZip IsHeaded (headed_rows [] [] (kept_rows groups)) (data_rows (contents_of groups))
+headed_are bytes groups read =
+    subst (λ (rows : List KeptRow). AllZip IsHeaded (headed_rows [] [] rows) (data_rows (contents_of groups))) (sym (kept_contents groups))
+    (headed_file (contents_of groups) [] [] (read_plain bytes groups read).1 (file_is_read.1 bytes groups read).each)
+
+-- row and headed row at one place
+headed_of : (headed : List HeadedRow) (rows : List DataRow) (n : ℕ) (r : DataRow) → AllZip IsHeaded headed rows → At rows n r → (h : HeadedRow) × (slice_get headed n ≡ Some h) × IsHeaded h r
+headed_of [] [] n r zip at = absurd (omega (arith, at.0))
+headed_of (h ∷ headed) (x ∷ rows) zero r zip at = (h, refl, subst (IsHeaded h) at.1 zip.0)
+headed_of (h ∷ headed) (x ∷ rows) (suc n) r zip at = headed_of headed rows n r zip.1 (omega (arith, at.0), at.1)
+headed_of headed rows n r zip at = absurd zip
+
+row_of_headed : (headed : List HeadedRow) (rows : List DataRow) (n : ℕ) (h : HeadedRow) → AllZip IsHeaded headed rows → slice_get headed n ≡ Some h → (r : DataRow) × At rows n r × IsHeaded h r
+row_of_headed [] rows n h zip at = absurd cc
+row_of_headed (x ∷ headed) (r ∷ rows) zero h zip at = let same : x ≡ h = cc in (r, (omega arith, refl), subst (λ (y : HeadedRow). IsHeaded y r) same zip.0)
+row_of_headed (x ∷ headed) (r ∷ rows) (suc n) h zip at =
+    let found = row_of_headed headed rows n h zip.1 at in
+    (found.0, (omega (arith, found.1.0), found.1.1), found.2)
+row_of_headed (x ∷ headed) [] n h zip at = absurd zip
 
 -- ---- Rule 13: a file without findings has one row of PROJ
 
@@ -112,62 +129,114 @@ one_project file clean n m a b =
 
 -- ---- what it says
 
--- the row of PROJ of a file without findings is at its number
-its_line : (file : CheckedFile) → IsClean file → (project : ProjectRow) → Some project ≡ project_of (kept_rows file.groups) → HasAt (data_rows (contents_of file.groups)) (IsLineOf (project_line project)) project.number
-its_line file clean project is =
-    let found = subst (IsFound 0 (data_rows (contents_of file.groups))) (sym is)
-    (found_line 0 [] [] (kept_rows file.groups) (data_rows (contents_of file.groups)) (lines_spelled file.bytes file.groups clean.groups)) in
-    subst (λ (k : ℕ). HasAt (data_rows (contents_of file.groups)) (IsLineOf (project_line project)) k) (sym (found.1 ∙ omega arith)) found.2
+-- its GROUP row is that of PROJ
+project_name : (h : HeadedRow) (r : DataRow) → IsHeaded h r → (bytes_eq h.group project_group ≡ true) ↔ (r.group ≡ codes "PROJ")
+unfolding project_group
+project_name h r is = (
+  λ e.
+      let same : h.group ≡ line_of (codes "GROUP" ∷ codes "PROJ" ∷ []) = (bytes_eq-Decides h.group (line_of (codes "GROUP" ∷ codes "PROJ" ∷ []))).0 e in
+      let fields : codes "GROUP" ∷ r.group ∷ [] ≡ codes "GROUP" ∷ codes "PROJ" ∷ [] =
+      same_fields h.group (codes "GROUP" ∷ r.group ∷ []) (codes "GROUP" ∷ codes "PROJ" ∷ []) is.0.above (subst (λ (l : List ℕ). Spells l (codes "GROUP" ∷ codes "PROJ" ∷ [])) (sym same) project_spelled) in
+      cc,
+  λ e. (bytes_eq-Decides h.group (line_of (codes "GROUP" ∷ codes "PROJ" ∷ []))).1 (is.1 ∙ ap (λ (g : List ℕ). line_of (codes "GROUP" ∷ g ∷ [])) e),
+)
 
--- there is none
-pub open_none : (look : Look) (file : CheckedFile) (found : Option ProjectRow) → IsClean file → found ≡ None → found ≡ project_of (kept_rows file.groups) → IsOpen look file None
-open_none look file found clean none is = λ shows.
-    subst (IsFound 0 (data_rows (contents_of file.groups))) (sym is ∙ none)
-    (found_line 0 [] [] (kept_rows file.groups) (data_rows (contents_of file.groups)) (lines_spelled file.bytes file.groups clean.groups)) shows.0 shows.1
-
--- it is not permitted
-pub open_hidden : (look : Look) (file : CheckedFile) (project : ProjectRow) (may : Bool) → IsClean file → Some project ≡ project_of (kept_rows file.groups) → MayBeSeen look (project_line project) may → may ≡ false → IsOpen look file None
-open_hidden look file project may clean is law hidden = λ shows.
-    let line = its_line file clean project is in
-    let same : shows.0 ≡ project.number = one_project file clean shows.0 project.number shows.1 (line.0, line.1, sym line.2.group) in
-    let itself : RowAt (file_of file) (IsPermitted look) shows.0 = shows.2 shows.0 (reach_itself (StepAt (file_of file)) shows.0) in
-    let there = subst (RowAt (file_of file) (IsPermitted look)) same itself in
-    let row : there.0 ≡ line.0 = one_at (data_rows (contents_of file.groups)) project.number there.0 line.0 there.1 line.1 in
-    true≢false (sym ((may_law look (project_line project) may law line.0 line.2).1 (subst (IsPermitted look) row there.2)) ∙ hidden)
-
--- where each of the row's steps leads to itself, so does each
-only_target : (row target : ℕ) (steps : List (ℕ × ℕ)) → is_only row (targets_of row steps) ≡ true → Contains steps (row, target) → target ≡ row
-only_target row target [] only has = absurd (omega (arith, has.1))
-only_target row target (step ∷ steps) only has = go (step.0 == row) refl (only_target row target steps) only has
+some_project : (number k : ℕ) (rows : List HeadedRow) (h : HeadedRow) → slice_get rows k ≡ Some h → bytes_eq h.group project_group ≡ true → (n : ℕ) × (first : HeadedRow) × (project_from number rows ≡ Some (n, first))
+some_project number k [] h at is = absurd cc
+some_project number zero (x ∷ rows) h at is = let same : x ≡ h = cc in (number, x, ap (λ (b : Bool). if b then Some (number, x) else project_from (number + 1) rows) (subst (λ (y : HeadedRow). bytes_eq y.group project_group ≡ true) (sym same) is))
+some_project number (suc k) (x ∷ rows) h at is = go (bytes_eq x.group project_group) (some_project (number + 1) k rows h at is)
   where
-    go : (b : Bool) → step.0 == row ≡ b → (is_only row (targets_of row steps) ≡ true → Contains steps (row, target) → target ≡ row)
-        → is_only row (map (λ s. s.1) (if b then step ∷ filter (λ s. s.0 == row) steps else filter (λ s. s.0 == row) steps)) ≡ true → Contains (step ∷ steps) (row, target) → target ≡ row
-    go true e more only has =
-        let parts = and_parts (step.1 == row) (is_only row (targets_of row steps)) only in elim (contains_cons step steps (row, target) has) [
-          | inl same ↦ sym (ap (λ (s : ℕ × ℕ). s.1) same) ∙ eqb-true step.1 row parts.0
-          | inr later ↦ more parts.1 later
-        ]
-    go false e more only has = elim (contains_cons step steps (row, target) has) [
-      | inl same ↦ absurd (eqb-false step.0 row e (ap (λ (s : ℕ × ℕ). s.0) same))
-      | inr later ↦ more only later
-    ]
+    go : (b : Bool) → ((n : ℕ) × (first : HeadedRow) × (project_from (number + 1) rows ≡ Some (n, first))) → (n : ℕ) × (first : HeadedRow) × ((if b then Some (number, x) else project_from (number + 1) rows) ≡ Some (n, first))
+    go true more = (number, x, refl)
+    go false more = more
 
--- it is permitted, and shown if it has no step to another row
-pub open_shown : (look : Look) (file : CheckedFile) (project : ProjectRow) (may : Bool) → IsClean file → Some project ≡ project_of (kept_rows file.groups) → MayBeSeen look (project_line project) may → may ≡ true → IsOpen look file (Some project.number)
-open_shown look file project may clean is law permitted = λ only.
-    let line = its_line file clean project is in
-    let own : RowAt (file_of file) (IsPermitted look) project.number = (line.0, line.1, (may_law look (project_line project) may law line.0 line.2).0 permitted) in
-    (project.number, (line.0, line.1, sym line.2.group), λ m walk. reach only own m walk.0 walk.1)
+first_project : (number n : ℕ) (first : HeadedRow) (rows : List HeadedRow) → project_from number rows ≡ Some (n, first) → bytes_eq first.group project_group ≡ true
+first_project number n first [] e = absurd cc
+first_project number n first (x ∷ rows) e = go (bytes_eq x.group project_group) refl e (λ more. first_project (number + 1) n first rows more)
   where
-    reach : is_only project.number (targets_of project.number file.graph.steps) ≡ true → RowAt (file_of file) (IsPermitted look) project.number → (m : ℕ) (rows : List ℕ) → IsWalk (StepAt (file_of file)) project.number rows m → RowAt (file_of file) (IsPermitted look) m
-    reach only own m [] same = subst (RowAt (file_of file) (IsPermitted look)) same own
-    reach only own m (t ∷ rows) walk =
-        let itself : t ≡ project.number = only_target project.number t file.graph.steps only ((clean.graph.steps.exact project.number t).1 walk.0) in
-        reach only own m rows (subst (λ (k : ℕ). IsWalk (StepAt (file_of file)) k rows m) itself walk.1)
+    go : (b : Bool) → bytes_eq x.group project_group ≡ b → (if b then Some (number, x) else project_from (number + 1) rows) ≡ Some (n, first) → (project_from (number + 1) rows ≡ Some (n, first) → bytes_eq first.group project_group ≡ true) → bytes_eq first.group project_group ≡ true
+    go true is e more = let pair : (number , x) ≡ (n , first) = cc in subst (λ (y : HeadedRow). bytes_eq y.group project_group ≡ true) (ap (λ (p : ℕ × HeadedRow). p.1) pair) is
+    go false is e more = more e
 
--- a row of PROJ that is kept of a file can be read
-pub project_reads : (file : CheckedFile) (project : ProjectRow) → IsClean file → Some project ≡ project_of (kept_rows file.groups) → IsUnreadable (project_line project) → ⊥
-project_reads file project clean is unreadable = let line = its_line file clean project is in unreadable line.0 line.2
+module _ (look : Look) (file : CheckedFile) (clean : IsClean file) (found : List HeadedRow) (are : AreProjectRows (kept_rows file.groups) file.graph.steps found) where
+  abbrev rows : List DataRow
+  rows = data_rows (contents_of file.groups)
+
+  abbrev headed : List HeadedRow
+  headed = headed_rows [] [] (kept_rows file.groups)
+
+  zip : AllZip IsHeaded headed rows
+  zip = headed_are file.bytes file.groups clean.groups
+
+  -- the row of PROJ of the file
+  its_row : (n : ℕ) (first : HeadedRow) → project_of (kept_rows file.groups) ≡ Some (n, first) → (r : DataRow) × At rows n r × (r.group ≡ codes "PROJ")
+  its_row n first is =
+      let at = project_at 0 n first headed is in
+      let there = row_of_headed headed rows at.0 first zip at.3 in
+      (there.0, subst (λ (k : ℕ). At rows k there.0) (sym (at.1 ∙ omega arith)) there.1, (project_name first there.0 there.2).0 (first_project 0 n first headed is))
+
+  -- the graph is walked as the file
+  reach_graph : (n m : ℕ) → Reaches (StepAt (file_of file)) n m ↔ Reaches (HasStep file.graph.steps) n m
+  reach_graph n m = (
+    λ walk. (walk.0, walk_same (StepAt (file_of file)) (HasStep file.graph.steps) (λ r s. (clean.graph.steps.exact r s).1) n walk.0 m walk.1),
+    λ walk. (walk.0, walk_same (HasStep file.graph.steps) (StepAt (file_of file)) (λ r s. (clean.graph.steps.exact r s).0) n walk.0 m walk.1),
+  )
+
+  -- each row that is reached is a row of the file
+  reached_row : (m : ℕ) (walk : List ℕ) (n : ℕ) (r : DataRow) → At rows n r → IsWalk (StepAt (file_of file)) n walk m → (s : DataRow) × At rows m s
+  reached_row m [] n r at same = (r, subst (λ (k : ℕ). At rows k r) same at)
+  reached_row m (t ∷ walk) n r at steps = reached_row m walk t steps.0.1 steps.0.3 steps.1
+
+  -- all that is found may be seen
+  pub all_seen : All (λ h. HeadedMayBeSeen look h true) found → 0 < length found → IsProjectShown look (file_of file)
+  all_seen all some =
+      let front = first_item found some in
+      let its = (are front.0).0 front.1 in
+      let n = its.1.0 in
+      let first = its_row n its.1.1.0 its.1.1.1 in
+      (n, (first.0, first.1, first.2), λ m walk.
+      let s = reached_row m walk.0 n first.0 first.1 walk.1 in
+      let there = headed_of headed rows m s.0 zip s.1 in
+      let in_found = (are there.0).1 (m, (n, its.1.1, (reach_graph n m).0 walk), there.1) in
+      let seen = subst (λ (x : HeadedRow). HeadedMayBeSeen look x true) in_found.2 (all in_found.0 there.0 in_found.1) in
+      (s.0, s.1, (headed_law look there.0 true seen s.0 there.2.0).0 refl))
+
+  -- one that is found may not be seen
+  pub one_hidden : (h : HeadedRow) → Contains found h → HeadedMayBeSeen look h false → IsProjectShown look (file_of file) → ⊥
+  one_hidden h has hidden shows =
+      let its = (are h).0 has in
+      let first = its_row its.1.0 its.1.1.0 its.1.1.1 in
+      let same : shows.0 ≡ its.1.0 = one_project file clean shows.0 its.1.0 shows.1 (first.0, first.1, first.2) in
+      let walk = (reach_graph its.1.0 its.0).1 its.1.2 in
+      let there = shows.2 its.0 (subst (λ (k : ℕ). Reaches (StepAt (file_of file)) k its.0) (sym same) walk) in
+      let row = row_of_headed headed rows its.0 h zip its.2 in
+      let one : there.0 ≡ row.0 = one_at rows its.0 there.0 row.0 there.1 row.1 in
+      let no : false ≡ true = (headed_law look h false hidden row.0 row.2.0).1 (subst (IsPermitted look) one there.2) in
+      true≢false (sym no)
+
+  -- nothing is found
+  pub none_shown : length found ≡ 0 → IsProjectShown look (file_of file) → ⊥
+  none_shown none shows =
+      let there = headed_of headed rows shows.0 shows.1.0 zip shows.1.1 in
+      let project = some_project 0 shows.0 headed there.0 there.1 ((project_name there.0 shows.1.0 there.2).1 shows.1.2) in
+      let at = project_at 0 project.0 project.1 headed project.2 in
+      let has = (are project.1).1 (project.0, (project.0, (project.1, project.2), reach_itself (HasStep file.graph.steps) project.0), subst (λ (k : ℕ). slice_get headed k ≡ Some project.1) (sym (at.1 ∙ omega arith)) at.3) in
+      omega (arith, none, has.1)
+
+  -- where all that is found may be seen, it is shown if anything is found
+  pub decided : (empty : Bool) → empty ≡ (length found == 0) → All (λ h. HeadedMayBeSeen look h true) found → Sees look file (not empty)
+  decided empty is all = go empty is
+    where
+      go : (e : Bool) → e ≡ (length found == 0) → Sees look file (not e)
+      go true e = (λ h. absurd cc, λ shows. absurd (none_shown (eqb-true (length found) 0 (sym e)) shows))
+      go false e = (λ h. all_seen all (omega (arith, eqb-false (length found) 0 (sym e))), λ shows. refl)
+
+  -- one that is found is a row
+  pub found_row : (h : HeadedRow) → Contains found h → (r : DataRow) × IsHeadedLine h r
+  found_row h has =
+      let its = (are h).0 has in
+      let row = row_of_headed headed rows its.0 h zip its.2 in
+      (row.0, row.2.0)
 
 -- ---- the file of a deposit
 
@@ -186,9 +255,3 @@ pub within_after : {K : Type 0} (keep : Ghosts K) (old new : K) (number : ℕ) �
 within_after keep old new number reads within s = subst (λ (l : List Deposit). (0 < number) × (number ≤ length l))
     (sym (reads.same s refl)) (within (reads.sound s))
 
--- the row of PROJ decides alone
-pub sees_hidden : (look : Look) (file : CheckedFile) → IsOpen look file None → Sees look file false
-sees_hidden look file hidden = (λ e. absurd cc, λ shows. absurd (hidden shows))
-
-pub sees_shown : (look : Look) (file : CheckedFile) (row : ℕ) → IsOpen look file (Some row) → is_only row (targets_of row file.graph.steps) ≡ true → Sees look file true
-sees_shown look file row opens only = (λ _. opens only, λ _. refl)

@@ -41,10 +41,10 @@ was_sound keep old new requests answers by sound = absurd by
 
 -- ---- the run
 
--- a store that has not failed leaves its own list and no other
+-- a store that has not failed leaves its own dictionary and list and no other
 abbrev pub Settled : {K : Type 0} → Ghosts K → Type 0
-Settled {K} keep = (k : K) (list : List Deposit) → keep.is_sound k → keep.has_failed k ≡ false → keep.may_leave k list
-    → list ≡ keep.deposits k
+Settled {K} keep = (k : K) (bytes : List ℕ) (list : List Deposit) → keep.is_sound k → keep.has_failed k ≡ false → keep.may_leave k bytes list
+    → (bytes ≡ keep.text k) × (list ≡ keep.deposits k)
 
 -- a store that has not failed leaves a register of some list
 abbrev pub Unbroken : {K : Type 0} → Ghosts K → Type 0
@@ -60,10 +60,10 @@ runs_fail keep rules old new r a requests answers settled unbroken works sound f
       last = keep.deposits old;
       answered = (is, where_true (is_failed a) _ _ fails (refl, failed));
       kept = λ e. absurd (some_none (sym this_fails ∙ e));
-      left = λ list may.
-          elim (serves.crash sound list may) [
-            | inl was ↦ inl (settled old list (serves.sound sound) works was)
-            | inr change ↦ inr (r, this_fails, change)
+      left = λ bytes list may.
+          elim (serves.crash sound bytes list may) [
+            | inl was ↦ let own = settled old bytes list (serves.sound sound) works was in (own.0, inl own.1)
+            | inr change ↦ (change.0, inr (r, this_fails, change.1))
           ];
       whole = λ may. unbroken old (serves.sound sound) works (serves.whole sound may);
     }
@@ -88,11 +88,14 @@ runs_on keep rules old mid new r a requests answers sound lives serves is rest =
         where_false (is_failed a) _ _ lives (keep.deposits mid, serves.kept sound, subst (λ (g : Terms). AreAnswers g (keep.deposits mid) requests answers rest.last) terms rest.answered),
       );
       kept = λ e. rest.kept (sym later ∙ e);
-      left = λ list may.
-          elim (rest.left list may) [
-            | inl same ↦ inl same
-            | inr h ↦ inr (h.0, later ∙ h.1, subst (λ (g : Terms). Changes g rest.last h.0 list) terms h.2)
-          ];
+      left = λ bytes list may.
+          let then = rest.left bytes list may in (
+            then.0 ∙ serves.same_text sound lives,
+            elim then.1 [
+              | inl same ↦ inl same
+              | inr h ↦ inr (h.0, later ∙ h.1, subst (λ (g : Terms). Changes g rest.last h.0 list) terms h.2)
+            ],
+          );
       whole = rest.whole;
     }
   where
@@ -106,7 +109,7 @@ desk_runs {K = K} keep old new [] [] settled unbroken by sound works =
     let was = was_sound keep old new [] [] by sound in
     let fine : keep.has_failed old.keep ≡ false = sym (old.exact was) ∙ works in
     subst (λ (d : Desk K keep). ∥ Runs keep old.policy old.keep d.keep [] [] ∥₁) (sym by)
-    ∣ record { last = keep.deposits old.keep; answered = refl; kept = λ e. refl; left = λ list may. inl (settled old.keep list was fine may); whole = unbroken old.keep was fine } ∣₁
+    ∣ record { last = keep.deposits old.keep; answered = refl; kept = λ e. refl; left = λ bytes list may. (let own = settled old.keep bytes list was fine may in (own.0, inl own.1)); whole = unbroken old.keep was fine } ∣₁
 desk_runs {K = K} keep old new (r ∷ requests) (a ∷ answers) settled unbroken by sound works =
     let mid = by.0 in
     let then_sound = was_sound keep mid new requests answers by.2 sound in
@@ -129,9 +132,9 @@ pub steps_run : {K : Type 0} (keep : Ghosts K) → Settled keep → Unbroken kee
 steps_run keep settled unbroken old new requests answers by =
     let runs = desk_runs keep old new requests answers settled unbroken by in (
       runs,
-      λ sound works list may.
+      λ sound works bytes list may.
           ∥∥₁_map (runs sound works) (λ (r : Runs keep old.policy old.keep new.keep requests answers).
-          receipts_last keep old.policy old.keep new.keep requests answers r list may),
+          receipts_last keep old.policy old.keep new.keep requests answers r bytes list may),
     )
 
 -- the next request goes to the desk that these left

@@ -1,5 +1,5 @@
 -- What a desk answers to a list of requests, and what a crash may leave after it.
-use Rattle.std.specs.Prelude.{◌≡◌, ◌⊎◌, List, [], ◌∷◌, true, false, Option, Some}
+use Rattle.std.specs.Prelude.{◌≡◌, ◌⊎◌, ℕ, List, [], ◌∷◌, true, false, Option, Some}
 use Rattle.std.specs.Prelude.{None, MatchBool, option_map, find, zip, ⊤}
 use Rattle.std.specs.List.{AllZip}
 use Rattle.reg_policy.specs.declared.rule.Rule.{Rule}
@@ -47,10 +47,11 @@ pub record Runs {K : Type 0} (keep : Ghosts K) (rules : List Rule) (old new : K)
   pub last : List Deposit
   pub answered : AreAnswers (terms_at keep rules old) (keep.deposits old) requests answers last
   pub kept : failing requests answers ≡ None → keep.deposits new ≡ last
-  -- a crash leaves no list but `last`, or, where a request failed, one to which that request changes `last`
-  pub left : (list : List Deposit) → keep.may_leave new list
-      → (list ≡ last)
-      ⊎ ((r : Asked) × (failing requests answers ≡ Some r) × Changes (terms_at keep rules old) last r list)
+  -- a crash leaves the bytes of the dictionary, and no list but `last`, or, where a request failed, one to which that
+  -- request changes `last`
+  pub left : (bytes : List ℕ) (list : List Deposit) → keep.may_leave new bytes list
+      → (bytes ≡ keep.text old) × ((list ≡ last)
+      ⊎ ((r : Asked) × (failing requests answers ≡ Some r) × Changes (terms_at keep rules old) last r list))
   -- a crash leaves a register of some list, so of one of these
   pub whole : keep.may_break new → ⊥
 
@@ -66,4 +67,5 @@ RunsIfSound keep old requests answers new = keep.is_sound new.keep → old.faile
 abbrev pub ReceiptsSurviveIfSound : {K : Type 0} (keep : Ghosts K) → Desk K keep → List Asked → List Answer
     → Desk K keep → Type 0
 ReceiptsSurviveIfSound keep old requests answers new = keep.is_sound new.keep → old.failed ≡ false
-    → (list : List Deposit) → keep.may_leave new.keep list → ∥ AllZip (IsHeldIn list) requests answers ∥₁
+    → (bytes : List ℕ) (list : List Deposit) → keep.may_leave new.keep bytes list
+    → ∥ AllZip (IsHeldIn list) requests answers ∥₁

@@ -17,13 +17,14 @@ use Rattle.ags_check.specs.Findings.{CheckedFile, Findings, IsClean}
 use Rattle.ags_check.proofs.Lemmas.{one_list, one_clean_file}
 use Rattle.reg_store.specs.declared.keep.Kept.{Kept}
 use Rattle.reg_store.specs.declared.keep.KeptRow.{KeptRow}
-use Rattle.reg_store.specs.declared.keep.ProjectRow.{ProjectRow}
-use Rattle.reg_store.specs.Project.{project_of, targets_of}
+use Rattle.reg_store.specs.declared.keep.HeadedRow.{HeadedRow}
+use Rattle.reg_store.specs.Project.{AreProjectRows, headed_rows}
 use Rattle.reg_store.specs.Keep.{deposit_of, sent_of}
 use Rattle.reg_store.specs.Sent.{Sent, numbers_from}
 use Rattle.reg_store.specs.Deposit.{Deposit, sents, mark, marked, sents_marked}
 use Rattle.reg_store.specs.Fit.{IsFit, IsFileOf, kept_rows}
 use Rattle.reg_store.specs.PlainLaws.{fit_of}
+use Rattle.reg_store.proofs.ProjectLemmas.{headed_count}
 
 -- ---- a fit deposit
 
@@ -129,13 +130,16 @@ pub graph_is : {E : Type 0} (dictionary : Entries) (d : Sent) (checked : Checked
 graph_is dictionary d checked graph (Ok copied) its of same = λ file other. same ∙ of ∙ ap (λ (f : CheckedFile). f.graph) (one_file dictionary d checked file its other)
 graph_is dictionary d checked graph (Err e) its of same = tt
 
-pub project_is : {E : Type 0} (dictionary : Entries) (d : Sent) (rows read : List KeptRow) (r : Result (Option ProjectRow) E) → read ≡ rows → ((file : CheckedFile) → IsFileOf dictionary d file → rows ≡ kept_rows file.groups)
-    → IfOk r (λ found. found ≡ project_of read) → IfOk r (λ found. (file : CheckedFile) → IsFileOf dictionary d file → found ≡ project_of (kept_rows file.groups))
-project_is dictionary d rows read (Ok found) same are is = λ file its. is ∙ ap project_of (same ∙ are file its)
-project_is dictionary d rows read (Err e) same are is = tt
-
-pub targets_are : {X E : Type 0} (items : X → List ℕ) (dictionary : Entries) (d : Sent) (checked : CheckedFile) (row : ℕ) (graph : StepGraph) (steps : List (ℕ × ℕ)) (r : Result X E) → IsFileOf dictionary d checked → graph ≡ checked.graph
-    → steps ≡ graph.steps → IfOk r (λ x. items x ≡ targets_of row steps) → IfOk r (λ x. (file : CheckedFile) → IsFileOf dictionary d file → items x ≡ targets_of row file.graph.steps)
-targets_are items dictionary d checked row graph steps (Ok x) its of same is = λ file other.
-    is ∙ ap (targets_of row) (same ∙ ap (λ (g : StepGraph). g.steps) (of ∙ ap (λ (f : CheckedFile). f.graph) (one_file dictionary d checked file its other)))
-targets_are items dictionary d checked row graph steps (Err e) its of same is = tt
+pub project_rows_are : {X E : Type 0} (items : X → List HeadedRow) (dictionary : Entries) (d : Sent) (checked : CheckedFile) (groups : List Group) (rows read : List KeptRow) (graph : StepGraph) (r : Result X E) → IsFileOf dictionary d checked
+    → groups ≡ checked.groups → rows ≡ kept_rows groups → read ≡ rows → graph ≡ checked.graph
+    → IfOk r (λ found. length (headed_rows [] [] read) ≡ graph.rows → AreProjectRows read graph.steps (items found))
+    → IfOk r (λ found. (file : CheckedFile) → IsFileOf dictionary d file → AreProjectRows (kept_rows file.groups) file.graph.steps (items found))
+project_rows_are items dictionary d checked groups rows read graph (Ok found) its of kept same of_graph are = λ file other.
+    let one = one_file dictionary d checked file its other in
+    let its_rows : read ≡ kept_rows file.groups = same ∙ kept ∙ ap kept_rows (of ∙ ap (λ (f : CheckedFile). f.groups) one) in
+    let its_graph : graph ≡ file.graph = of_graph ∙ ap (λ (f : CheckedFile). f.graph) one in
+    let all : length (headed_rows [] [] (kept_rows file.groups)) ≡ file.graph.rows → AreProjectRows (kept_rows file.groups) file.graph.steps (items found) =
+    subst (λ (g : StepGraph). length (headed_rows [] [] (kept_rows file.groups)) ≡ g.rows → AreProjectRows (kept_rows file.groups) g.steps (items found)) its_graph
+    (subst (λ (l : List KeptRow). length (headed_rows [] [] l) ≡ graph.rows → AreProjectRows l graph.steps (items found)) its_rows are) in
+    all (headed_count file other.clean)
+project_rows_are items dictionary d checked groups rows read graph (Err e) its of kept same of_graph are = tt

@@ -1,17 +1,17 @@
 -- What the calls of a store read of a deposit and of its file.
-use Rattle.std.specs.Prelude.{◌≡◌, ◌-◌, ℕ, List, Option, Some, Vec, slice_get}
+use Rattle.std.specs.Prelude.{◌≡◌, ◌≤◌, ◌-◌, ℕ, List, Some, Vec, slice_get}
 use Rattle.std.specs.declared.alloc.Global.{Global}
 use Rattle.ags_dict.specs.Entries.{Entries}
 use Rattle.ags_links.specs.Walks.{StepGraph}
 use Rattle.ags_check.specs.Findings.{CheckedFile}
 use Rattle.reg_store.specs.declared.keep.KeptHead.{KeptHead}
 use Rattle.reg_store.specs.declared.keep.KeptRow.{KeptRow}
-use Rattle.reg_store.specs.declared.keep.ProjectRow.{ProjectRow}
+use Rattle.reg_store.specs.declared.keep.HeadedRow.{HeadedRow}
 use Rattle.reg_store.specs.Keep.{IsHeadOf}
 use Rattle.reg_store.specs.Sent.{Sent}
 use Rattle.reg_store.specs.Deposit.{Deposit}
 use Rattle.reg_store.specs.Fit.{IsFileOf, kept_rows}
-use Rattle.reg_store.specs.Project.{project_of, targets_of}
+use Rattle.reg_store.specs.Project.{AreProjectRows}
 
 -- The head is that of deposit n of the list.
 abbrev pub IsHeadAt : List Deposit → ℕ → KeptHead → Type 0
@@ -29,10 +29,10 @@ HasKeptRows rows file = rows.items ≡ kept_rows file.groups
 abbrev pub HasGraph : StepGraph → CheckedFile → Type 0
 HasGraph graph file = graph ≡ file.graph
 
--- This is the file's row of PROJ, or None where it has none.
-abbrev pub HasProjectRow : Option ProjectRow → CheckedFile → Type 0
-HasProjectRow found file = found ≡ project_of (kept_rows file.groups)
+-- These are the file's row of PROJ and the rows that it reaches, with the header rows above them, in any order.
+abbrev pub HasProjectRows : Vec HeadedRow Global → CheckedFile → Type 0
+HasProjectRows found file = AreProjectRows (kept_rows file.groups) file.graph.steps found.items
 
--- These are the rows of the file to which the row has a step, in the order of the steps.
-abbrev pub HasTargets : ℕ → Vec ℕ Global → CheckedFile → Type 0
-HasTargets row found file = found.items ≡ targets_of row file.graph.steps
+-- The row has one of the five kinds.
+abbrev pub HasKind : KeptRow → Type 0
+HasKind row = row.kind ≤ 4

@@ -5,11 +5,11 @@ ghost use Rattle.reg_store.specs.Keep.{deposit_of, sent_of, IsHeadOf};
 ghost use Rattle.reg_store.specs.Sent.{number_of, numbers_from};
 ghost use Rattle.reg_store.specs.Deposit.{sents};
 ghost use Rattle.reg_store.specs.Fit.{IsFit, IsFileOf};
-ghost use Rattle.reg_store.specs.Reading.{HasGraph, HasKeptRows, HasProjectRow, HasTargets, OfFile};
+ghost use Rattle.reg_store.specs.Reading.{HasGraph, HasKeptRows, HasKind, HasProjectRows, OfFile};
 ghost use Rattle.reg_store.specs.PlainLaws.{few_of, fit_of};
 
-use crate::keep::{Keep, KeepError, Kept, KeptHead, KeptRow, MOST, ProjectRow, is_equal};
-use crate::project::{project_in, targets_in};
+use crate::keep::{HeadedRow, Keep, KeepError, Kept, KeptHead, KeptRow, MOST, is_equal};
+use crate::project::project_rows_in;
 use crate::rows::kept_rows;
 use ags_check::{CheckError, Checked, check};
 use ags_dict::Dictionary;
@@ -85,7 +85,7 @@ impl Keep for PlainKeep {
     ghost has_failed = { λ _. false };
 
     // Memory keeps its list, and loses none of it while the program runs.
-    ghost may_leave = { λ k list. list ≡ deposits_of k };
+    ghost may_leave = { λ k bytes list. (bytes ≡ []) × (list ≡ deposits_of k) };
 
     ghost may_break = { λ _. ⊥ };
 
@@ -151,19 +151,9 @@ impl Keep for PlainKeep {
         Ok(graph)
     }
 
-    fn project_row(&mut self, n: u32) -> Result<Option<ProjectRow>, KeepError> {
+    fn project_rows(&mut self, n: u32) -> Result<Vec<HeadedRow>, KeepError> {
         let found = checked_project(self.alloc, &self.dictionary, &self.kept[n as usize - 1])?;
         Ok(found)
-    }
-
-    fn targets(&mut self, n: u32, row: u32) -> Result<Vec<u32>, KeepError> {
-        let targets = checked_targets(
-            self.alloc,
-            &self.dictionary,
-            &self.kept[n as usize - 1],
-            row,
-        )?;
-        Ok(targets)
     }
 
     fn numbers(&mut self, project: &Name) -> Result<Vec<u32>, KeepError> {
@@ -183,13 +173,13 @@ impl Keep for PlainKeep {
         &self.dictionary
     }
 
-    ghost settled = { λ _ _ _ _ same. same };
+    ghost settled = { λ _ _ _ _ _ same. same };
 
-    ghost stays = { λ _ _ _. ∣ refl ∣₁ };
+    ghost stays = { λ _ _ _. ∣ (refl, refl) ∣₁ };
 
     ghost unbroken = { λ _ _ _ none. none };
 
-    ghost remains = { λ k _ _ none. none (deposits_of k) refl };
+    ghost remains = { λ k _ _ none. none [] (deposits_of k) (refl, refl) };
 
     ghost fit = { λ k _ _. fit_of k.dictionary (sents (deposits_of k)) k.fit };
 
@@ -256,7 +246,8 @@ fn checked_rows(
     kept: &Kept,
 ) -> Result<Vec<KeptRow>, AllocError>
     requires { IsFit dictionary.now (sent_of kept.now) }
-    ensures { IfOk result (λ rows. OfFile dictionary.now (sent_of kept.now) (HasKeptRows rows)) }
+    ensures rows { IfOk result (λ rows. OfFile dictionary.now (sent_of kept.now) (HasKeptRows rows)) }
+    ensures kinds { IfOk result (λ rows. All HasKind rows.items) }
 {
     let checked = recheck(alloc, dictionary, kept)?;
     kept_rows(alloc, checked.scan().groups())
@@ -287,31 +278,18 @@ fn checked_steps(alloc: Global, dictionary: &Dictionary, kept: &Kept) -> Result<
     copy_graph(alloc, checked.graph())
 }
 
-/// The row of PROJ of a deposit's file.
+/// The row of PROJ of a deposit's file, and the rows that it reaches.
 fn checked_project(
     alloc: Global,
     dictionary: &Dictionary,
     kept: &Kept,
-) -> Result<Option<ProjectRow>, AllocError>
+) -> Result<Vec<HeadedRow>, AllocError>
     requires { IsFit dictionary.now (sent_of kept.now) }
-    ensures { IfOk result (λ found. OfFile dictionary.now (sent_of kept.now) (HasProjectRow found)) }
-{
-    let rows = checked_rows(alloc, dictionary, kept)?;
-    project_in(alloc, &rows)
-}
-
-/// The rows to which a row of a deposit's file has a step.
-fn checked_targets(
-    alloc: Global,
-    dictionary: &Dictionary,
-    kept: &Kept,
-    row: u32,
-) -> Result<Vec<u32>, AllocError>
-    requires { IsFit dictionary.now (sent_of kept.now) }
-    ensures { IfOk result (λ targets. OfFile dictionary.now (sent_of kept.now) (HasTargets row targets)) }
+    ensures { IfOk result (λ found. OfFile dictionary.now (sent_of kept.now) (HasProjectRows found)) }
 {
     let checked = recheck(alloc, dictionary, kept)?;
-    targets_in(alloc, checked.graph().steps(), row)
+    let rows = kept_rows(alloc, checked.scan().groups())?;
+    project_rows_in(alloc, &rows, checked.graph())
 }
 
 /// The numbers of a project's deposits, rising.

@@ -117,19 +117,29 @@ next_at {old} {new} {dictionary} {count} Change next h becomes change sound sett
       counted = ap length (sym (read k));
     }
 
--- a crash leaves the list from before, or the next one
+-- The change leaves the table `meta`.
+abbrev pub LeavesMeta : State → (Database → Database → Type 0) → Type 0
+LeavesMeta old Change = (db : Database) → Change old.now db → db.trees 0 ≡ old.now.trees 0
+
+-- a crash leaves the list from before, or the next one under the same dictionary
 pub crash_at : {old new : State} {dictionary : Entries} {count : ℕ} (Change : Database → Database → Type 0)
     (next : List Deposit) → ∥ KeepsRegister old dictionary count ∥₁ → BecomesNext old dictionary count Change next
-    → Survives old new (ChangesOf Change old) → HasCleanDisk new → (list : List Deposit)
-    → LeavesList new.may_leave dictionary list → LeavesList old.may_leave dictionary list ⊎ (list ≡ next)
-crash_at {old} {new} {dictionary} {count} Change next h becomes survives clean list left =
+    → LeavesMeta old Change → Survives old new (ChangesOf Change old) → HasCleanDisk new → (bytes : List ℕ)
+    (list : List Deposit) → LeavesList new.may_leave dictionary bytes list
+    → LeavesList old.may_leave dictionary bytes list ⊎ ((bytes ≡ text_in old.committed.trees) × (list ≡ next))
+crash_at {old} {new} {dictionary} {count} Change next h becomes meta survives clean bytes list left =
     go (survives.crash clean left.0 left.1)
   where
-    go : old.may_leave left.0 ⊎ ChangesOf Change old left.0 → LeavesList old.may_leave dictionary list ⊎ (list ≡ next)
-    go (inl may) = inl (left.0, may, left.2)
-    go (inr put) = inr (∥∥₁_elim h (list_set _ _) (λ (k : KeepsRegister old dictionary count).
-        sym (read_back (tables left.0) list left.2) ∙ ap deposits_in put.3
-        ∙ read_back put.0 next (becomes k put.0 put.1 put.2)))
+    go : old.may_leave left.0 ⊎ ChangesOf Change old left.0
+        → LeavesList old.may_leave dictionary bytes list ⊎ ((bytes ≡ text_in old.committed.trees) × (list ≡ next))
+    go (inl may) = inl (left.0, may, left.2, left.3)
+    go (inr put) = inr (
+      left.2 ∙ ap text_in put.3 ∙ ap (λ (rows : List Row). dictionary_body (map columns_3 rows)) (meta put.0 put.1)
+      ∙ sym (ap (λ (db : Database). text_in db.trees) (settled_of h)),
+      ∥∥₁_elim h (list_set _ _) (λ (k : KeepsRegister old dictionary count).
+      sym (read_back (tables left.0) list left.3) ∙ ap deposits_in put.3
+      ∙ read_back put.0 next (becomes k put.0 put.1 put.2)),
+    )
 
 -- and it leaves a register, whole
 pub whole_next : {old new : State} {dictionary : Entries} {count : ℕ} (Change : Database → Database → Type 0)

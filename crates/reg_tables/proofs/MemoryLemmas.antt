@@ -60,14 +60,13 @@ known_sent dictionary list known k one sent are low is there =
 
 -- of a deposit of which nothing was read
 new_is_known : (dictionary : Entries) (d : Sent) (size : Size) → IsSizeOf dictionary d size → IsKnown dictionary (unmarked d) (new_known (head_of d) size)
-new_is_known dictionary d size its = record { head = refl; size = its; project = λ row none. absurd cc; alone = λ row none. absurd cc }
+new_is_known dictionary d size its = record { head = refl; size = its; project = λ row none. absurd cc }
 
 marked_is_known : (dictionary : Entries) (d : Deposit) (one : Known) → IsNewOf dictionary d.sent one → IsKnown dictionary d (marked_as one d.withdrawn)
 marked_is_known dictionary d one new = record {
   head = ap (λ (x : Known). with_mark x.head d.withdrawn) new.known;
   size = new.size;
   project = λ row is. absurd (let none : None ≡ Some row = sym (ap (λ (x : Known). x.project) new.known) ∙ is in cc);
-  alone = λ row is. absurd (let none : None ≡ Some row = sym (ap (λ (x : Known). x.alone) new.known) ∙ is in cc);
 }
 
 -- what is found of deposits agrees with them once it has their marks
@@ -158,7 +157,7 @@ mark_zipped dictionary [] [] k one at all = tt
 mark_zipped dictionary (e ∷ list) (x ∷ known) zero one at all =
     let same : x ≡ one = cc in
     let was : IsKnown dictionary e one = subst (IsKnown dictionary e) same all.0 in
-    (record { head = ap (λ (h : KeptHead). with_mark h true) was.head; size = was.size; project = was.project; alone = was.alone }, all.1)
+    (record { head = ap (λ (h : KeptHead). with_mark h true) was.head; size = was.size; project = was.project }, all.1)
 mark_zipped dictionary (e ∷ list) (x ∷ known) (suc k) one at all = (all.0, mark_zipped dictionary list known k one at all.1)
 mark_zipped dictionary list known k one at all = absurd all
 

@@ -20,7 +20,7 @@ head_of d = record { firm = d.firm; project = d.project; embargo = d.embargo; wi
 
 -- Of a deposit of this head, which has so much, nothing was read.
 abbrev pub new_known : KeptHead → Size → Known
-new_known head size = record { head = head; size = size; project = None; alone = None }
+new_known head size = record { head = head; size = size; project = None }
 
 -- The size has the number of DATA rows of the deposit's file.
 abbrev pub IsSizeOf : Entries → Sent → Size → Type 0

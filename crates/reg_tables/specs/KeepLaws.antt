@@ -1,6 +1,6 @@
 -- The laws of the store. No promise is made of these words.
 use Rattle.std.specs.Prelude.{◌≡◌, ℕ, List, [], ◌∷◌, length, All, IsTrue}
-use Rattle.std.proofs.Common.{◌≤◌, zero, suc, sym, ap, ◌∙◌, subst, arith}
+use Rattle.std.proofs.Common.{◌≤◌, zero, suc, refl, sym, ap, ◌∙◌, subst, arith}
 use Rattle.std.proofs.Math.Logic.{∥∥₁_elim, ∥∥₁_map}
 use Rattle.std.proofs.Props.{props}
 use Rattle.std.specs.List.{AllZip}
@@ -16,7 +16,7 @@ use Rattle.reg_tables.specs.Inserts.{AddsFile}
 use Rattle.reg_tables.specs.Marks.{long_sents}
 use Rattle.reg_store.specs.Fit.{IsFit, IsFileOf}
 use Rattle.reg_store.specs.PlainLaws.{fit_of}
-use Rattle.reg_tables.specs.Register.{deposits_in, LeavesBroken, LeavesList, KeepsRegister, IsRegister, tables}
+use Rattle.reg_tables.specs.Register.{deposits_in, text_in, LeavesBroken, LeavesList, KeepsRegister, IsRegister, tables}
 use Rattle.reg_tables.specs.ReadBack.{read_back}
 
 -- ---- no kept body has a finding
@@ -56,18 +56,20 @@ settled_register {s} {dictionary} k =
 
 pub settled_at : {s : State} {dictionary : Entries} {count : ℕ} → ∥ KeepsRegister s dictionary count ∥₁
     → ((db : Trees) → IsTrue s.is_open → s.may_leave db → db ≡ s.committed.trees)
-    → (list : List Deposit) → LeavesList s.may_leave dictionary list → list ≡ deposits_in s.committed.trees
-settled_at {s} {dictionary} {count} kept law list left =
+    → (bytes : List ℕ) (list : List Deposit) → LeavesList s.may_leave dictionary bytes list
+    → (bytes ≡ text_in s.committed.trees) × (list ≡ deposits_in s.committed.trees)
+settled_at {s} {dictionary} {count} kept law bytes list left =
     let is_open : IsTrue s.is_open =
     ∥∥₁_elim kept (Prim.hlevel props) (λ (k : KeepsRegister s dictionary count). k.is_open) in
-    sym (read_back (tables left.0) list left.2) ∙ ap deposits_in (law left.0 is_open left.1)
+    let same = law left.0 is_open left.1 in
+    (left.2 ∙ ap text_in same, sym (read_back (tables left.0) list left.3) ∙ ap deposits_in same)
 
 pub stays_at : {s : State} {dictionary : Entries} {count : ℕ}
     → ∥ KeepsRegister s dictionary count ∥₁ → (IsTrue s.is_open → s.may_leave s.committed.trees)
-    → ∥ LeavesList s.may_leave dictionary (deposits_in s.committed.trees) ∥₁
+    → ∥ LeavesList s.may_leave dictionary (text_in s.committed.trees) (deposits_in s.committed.trees) ∥₁
 stays_at {s} {dictionary} {count} kept law = ∥∥₁_map kept (λ (k : KeepsRegister s dictionary count).
-    let r : LeavesList s.may_leave dictionary (deposits_in s.committed.trees) =
-    (s.committed.trees, law k.is_open, settled_register k) in r)
+    let r : LeavesList s.may_leave dictionary (text_in s.committed.trees) (deposits_in s.committed.trees) =
+    (s.committed.trees, law k.is_open, refl, settled_register k) in r)
 
 pub unbroken_at : {s : State} {dictionary : Entries} {count : ℕ} → ∥ KeepsRegister s dictionary count ∥₁ → ((db : Trees)
     → IsTrue s.is_open → s.may_leave db → db ≡ s.committed.trees) → LeavesBroken s.may_leave dictionary → ⊥
@@ -78,10 +80,11 @@ unbroken_at {s} {dictionary} {count} kept law left =
     ∥∥₁_elim kept (Prim.hlevel props) none
 
 pub remains_at : (may_leave : Trees → Type 0) (dictionary : Entries) → ∥ ((trees : Trees) × may_leave trees) ∥₁
-    → (LeavesBroken may_leave dictionary → ⊥) → ((list : List Deposit) → LeavesList may_leave dictionary list → ⊥) → ⊥
+    → (LeavesBroken may_leave dictionary → ⊥)
+    → ((bytes : List ℕ) (list : List Deposit) → LeavesList may_leave dictionary bytes list → ⊥) → ⊥
 remains_at may_leave dictionary some whole none =
     let left : (trees : Trees) × may_leave trees → ⊥ =
-    λ p. whole (p.0, p.1, λ list register. none list (p.0, p.1, register)) in
+    λ p. whole (p.0, p.1, λ list register. none (text_in p.0) list (p.0, p.1, refl, register)) in
     ∥∥₁_elim some (Prim.hlevel props) left
 
 -- what a crash within a change may leave beside what was there: the database after it

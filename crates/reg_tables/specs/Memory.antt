@@ -4,10 +4,8 @@ use Rattle.std.specs.Prelude.{◌≡◌, ◌<◌, ◌≤◌, ◌+◌, ℕ, Bool,
 use Rattle.std.specs.Prelude.{vec_len, vec_capacity}
 use Rattle.std.specs.Option.{ForSome}
 use Rattle.ags_dict.specs.Entries.{Entries}
-use Rattle.ags_check.specs.Findings.{CheckedFile}
 use Rattle.reg_store.specs.declared.keep.KeptHead.{KeptHead}
-use Rattle.reg_store.specs.Project.{targets_of}
-use Rattle.reg_store.specs.Reading.{HasProjectRow, OfFile}
+use Rattle.reg_store.specs.Reading.{HasProjectRows, OfFile}
 use Rattle.reg_store.specs.Sent.{Sent}
 use Rattle.reg_store.specs.Deposit.{Deposit, sents}
 use Rattle.reg_tables.specs.declared.memory.Coming.{Coming}
@@ -22,16 +20,11 @@ use Rattle.reg_tables.specs.Heads.{IsSizeOf, head_of, new_known}
 abbrev pub with_mark : KeptHead → Bool → KeptHead
 with_mark head mark = record { firm = head.firm; project = head.project; embargo = head.embargo; withdrawn = mark }
 
--- The DATA row of the file has no step.
-abbrev pub HasNoTarget : ℕ → CheckedFile → Type 0
-HasNoTarget row file = [] ≡ targets_of row file.graph.steps
-
 -- What is known of a deposit is its head with its mark and its size, and what was read is what its file has.
 pub record IsKnown (dictionary : Entries) (d : Deposit) (one : Known) : Type 0 where
   pub head : one.head ≡ with_mark (head_of d.sent) d.withdrawn
   pub size : IsSizeOf dictionary d.sent one.size
-  pub project : ForSome one.project (λ row. OfFile dictionary d.sent (HasProjectRow (Some row)))
-  pub alone : ForSome one.alone (λ row. OfFile dictionary d.sent (HasNoTarget row))
+  pub project : ForSome one.project (λ rows. OfFile dictionary d.sent (HasProjectRows rows))
 
 -- Of each deposit this is known, in the order of the list.
 pub record AreKnown (dictionary : Entries) (list : List Deposit) (known : List Known) : Type 0 where

@@ -146,9 +146,10 @@ IsRegister = IsRegisterOf Second
 abbrev pub tables : Trees → Database
 tables trees = record { schema = register_schema; trees = trees }
 
--- a crash may leave tables that are a register of this list
-abbrev pub LeavesList : (Trees → Type 0) → Entries → List Deposit → Type 0
-LeavesList may_leave dictionary list = (trees : Trees) × may_leave trees × IsRegister (tables trees) dictionary list
+-- a crash may leave tables that are a register of this list, with these bytes of the dictionary
+abbrev pub LeavesList : (Trees → Type 0) → Entries → List ℕ → List Deposit → Type 0
+LeavesList may_leave dictionary bytes list =
+    (trees : Trees) × may_leave trees × (bytes ≡ text_in trees) × IsRegister (tables trees) dictionary list
 
 -- a crash may leave tables that are a register of no list
 abbrev pub LeavesBroken : (Trees → Type 0) → Entries → Type 0

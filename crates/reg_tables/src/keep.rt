@@ -8,15 +8,14 @@ ghost use Rattle.sqlite.specs.Held.{state};
 ghost use Rattle.reg_tables.specs.Memory.{Agrees};
 ghost use Rattle.reg_tables.specs.Register.{deposits_in, KeepsIfClean, KeepsRegister, LeavesBroken, LeavesList, text_in};
 
-use crate::memory::Memory;
+use crate::memory::{Memory, copied_rows};
 use crate::memory::digests::digest_of;
 use crate::memory::room::Size;
 use crate::read::equal::read_equal;
 use crate::read::graph::read_graph;
 use crate::read::lines::read_lines;
-use crate::read::project::read_project;
+use crate::read::project::read_project_rows;
 use crate::read::read_deposit;
-use crate::read::targets::read_targets;
 use crate::write::add_checked;
 use crate::write::change::change_tables;
 use crate::write::mark::NewMark;
@@ -24,7 +23,7 @@ use ags_check::Checked;
 use ags_dict::Dictionary;
 use ags_links::Graph;
 use reg_policy::{Day, Name};
-use reg_store::{Keep, KeepError, Kept, KeptHead, KeptRow, MOST, ProjectRow};
+use reg_store::{HeadedRow, Keep, KeepError, Kept, KeptHead, KeptRow, MOST};
 use sqlite::{Alter, Connection};
 use std::alloc::Global;
 
@@ -158,24 +157,15 @@ impl<S: Alter> Keep for SqlKeep<S> {
         found
     }
 
-    fn project_row(&mut self, n: u32) -> Result<Option<ProjectRow>, KeepError> {
-        if let Some(row) = self.memory.held_project(n) {
-            let row = row.clone()?;
-            return Ok(Some(row));
+    fn project_rows(&mut self, n: u32) -> Result<Vec<HeadedRow>, KeepError> {
+        if let Some(rows) = self.memory.held_project(n) {
+            let copied = copied_rows(self.alloc, rows)?;
+            return Ok(copied);
         }
-        let found = read_project(&mut self.connection, self.alloc, n);
+        let rows = self.memory.row_count(n);
+        let found = read_project_rows(&mut self.connection, self.alloc, n, rows);
         self.has_failed = has_store_error(&found);
-        self.memory.note_project(n, &found);
-        found
-    }
-
-    fn targets(&mut self, n: u32, row: u32) -> Result<Vec<u32>, KeepError> {
-        if self.memory.is_alone(n, row) {
-            return Ok(Vec::new(self.alloc));
-        }
-        let found = read_targets(&mut self.connection, self.alloc, n, row);
-        self.has_failed = has_store_error(&found);
-        self.memory.note_targets(n, row, &found);
+        self.memory.note_project(self.alloc, n, &found);
         found
     }
 
@@ -195,8 +185,8 @@ impl<S: Alter> Keep for SqlKeep<S> {
         &self.dictionary
     }
 
-    ghost settled = { λ k list clean works left. settled_at (k.kept works clean)
-        (S.Store.settled k.connection.store) list left };
+    ghost settled = { λ k bytes list clean works left. settled_at (k.kept works clean)
+        (S.Store.settled k.connection.store) bytes list left };
 
     ghost stays = { λ k clean works. stays_at (k.kept works clean) (S.Store.stays k.connection.store) };
 

@@ -4,7 +4,7 @@ ghost use Rattle.std.specs.Prelude.{◌≡◌, ◌≢◌, ◌↔◌, ◌+◌, �
 ghost use Rattle.std.specs.Prelude.{slice_get, IsTrue, IfOk, IfErr, IfSome};
 ghost use Rattle.ags_dict.specs.Entries.{Entries};
 ghost use Rattle.reg_store.specs.Keep.{OfDeposit, fails};
-ghost use Rattle.reg_store.specs.Reading.{HasProjectRow, HasTargets, IsHeadAt};
+ghost use Rattle.reg_store.specs.Reading.{HasProjectRows, IsHeadAt};
 ghost use Rattle.reg_store.specs.Deposit.{Deposit, marked, sents, unmarked};
 ghost use Rattle.reg_store.specs.Sent.{Sent, numbers_from};
 ghost use Rattle.reg_tables.specs.Digests.{AreBelow, AreDigested, numbers_under};
@@ -18,7 +18,7 @@ pub(crate) mod room;
 use crate::memory::digests::{Digests, digest_of};
 use crate::memory::room::{Room, Size, Totals};
 use reg_policy::{Day, Name};
-use reg_store::{KeepError, KeptHead, ProjectRow};
+use reg_store::{HeadedRow, KeepError, KeptHead};
 use std::alloc::{AllocError, Global};
 
 /// What is known of the deposits.
@@ -36,7 +36,7 @@ pub(crate) struct Memory {
 }
 
 impl Memory {
-    ghost use Rattle.reg_tables.specs.Memory.{Agrees, HasNoTarget, HasRoom, IsComing, Remembers};
+    ghost use Rattle.reg_tables.specs.Memory.{Agrees, HasRoom, IsComing, Remembers};
 
     /// No deposit is known, of a register whose dictionary has so many bytes.
     pub(crate) fn new(alloc: Global, dictionary_bytes: usize) -> Memory
@@ -162,64 +162,40 @@ impl Memory {
         self.digests.of(digest)
     }
 
-    /// The row of PROJ of deposit n.
-    pub(crate) fn held_project(&self, n: u32) -> Option<&ProjectRow>
+    /// The row of PROJ of deposit n, and the rows that it reaches.
+    pub(crate) fn held_project(&self, n: u32) -> Option<&Vec<HeadedRow>>
         ensures { (dictionary : Entries) (list : List Deposit) → Agrees self.now dictionary list
-            → IfSome result (λ row. OfDeposit dictionary (sents list) n (HasProjectRow (Some row.now))) }
+            → IfSome result (λ rows. OfDeposit dictionary (sents list) n (HasProjectRows rows.now)) }
     {
         if !self.is_known(n) {
             return None;
         }
         match &self.known[n as usize - 1].project {
-            Some(row) => Some(row),
+            Some(rows) => Some(rows),
             None => None,
         }
     }
 
-    /// Whether it is known that this DATA row of deposit n has no step.
-    pub(crate) fn is_alone(&self, n: u32, row: u32) -> bool
-        ensures { IsTrue result → (dictionary : Entries) (list : List Deposit)
-            → Agrees self.now dictionary list → OfDeposit dictionary (sents list) n (HasNoTarget row) }
-    {
-        if !self.is_known(n) {
-            return false;
-        }
-        match self.known[n as usize - 1].alone {
-            Some(held) if held == row => true,
-            _ => false,
-        }
-    }
-
-    /// Keeps the row of PROJ that was read of deposit n, if it is short and there is room for it.
-    pub(crate) fn note_project(&mut self, n: u32, read: &Result<Option<ProjectRow>, KeepError>)
+    /// Keeps the row of PROJ that was read of deposit n, with the rows that it reaches, if they are short and there is
+    /// room for them.
+    pub(crate) fn note_project(
+        &mut self,
+        alloc: Global,
+        n: u32,
+        read: &Result<Vec<HeadedRow>, KeepError>,
+    )
         ensures { Remembers self.old self.new (λ dictionary list. IfOk read.now (λ found.
-            OfDeposit dictionary list n (HasProjectRow found))) }
+            OfDeposit dictionary list n (HasProjectRows found))) }
     {
         let Ok(found) = read else {
             return;
         };
-        let Some(row) = found else {
-            return;
-        };
-        if self.projects >= MOST_PROJECTS || !is_short(row) || !self.is_known(n) {
+        if self.projects >= MOST_PROJECTS || !are_short(found) || !self.is_known(n) {
             return;
         }
-        if let Ok(row) = row.clone() {
+        if let Ok(rows) = copied_rows(alloc, found) {
             self.projects += 1;
-            self.known[n as usize - 1].project = Some(row);
-        }
-    }
-
-    /// Keeps that this row of deposit n has no step, if none was read.
-    pub(crate) fn note_targets(&mut self, n: u32, row: u32, read: &Result<Vec<u32>, KeepError>)
-        ensures { Remembers self.old self.new (λ dictionary list. IfOk read.now (λ targets.
-            OfDeposit dictionary list n (HasTargets row targets))) }
-    {
-        let Ok(targets) = read else {
-            return;
-        };
-        if targets.is_empty() && self.is_known(n) {
-            self.known[n as usize - 1].alone = Some(row);
+            self.known[n as usize - 1].project = Some(rows);
         }
     }
 
@@ -257,7 +233,6 @@ impl Memory {
                 head,
                 size,
                 project: None,
-                alone: None,
             },
             digest,
             numbers,
@@ -299,10 +274,8 @@ impl Memory {
 pub(crate) struct Known {
     pub(crate) head: KeptHead,
     pub(crate) size: Size,
-    /// Its row of PROJ, if that was read.
-    pub(crate) project: Option<ProjectRow>,
-    /// The DATA row that was read last to have no step.
-    pub(crate) alone: Option<u32>,
+    /// Its row of PROJ and the rows that it reaches, if these were read.
+    pub(crate) project: Option<Vec<HeadedRow>>,
 }
 
 /// What is found of a register as it is examined.
@@ -341,14 +314,31 @@ pub(crate) struct Coming {
 /// The most rows of PROJ in memory.
 const MOST_PROJECTS: u32 = 65_536;
 
-/// The most bytes of a row of PROJ in memory, with its HEADING row.
-const MOST_PROJECT_BYTES: usize = 1_024;
+/// The most bytes of a row of PROJ in memory, with the rows that it reaches.
+const MOST_PROJECT_BYTES: usize = 2_048;
 
-/// Whether the row is so short that it may be in memory.
-fn is_short(row: &ProjectRow) -> bool {
-    row.headings
-        .as_slice()
-        .len()
-        .saturating_add(row.line.as_slice().len())
-        <= MOST_PROJECT_BYTES
+/// Whether the rows are so short that they may be in memory.
+fn are_short(rows: &[HeadedRow]) -> bool {
+    let mut bytes: usize = 0;
+    for row in rows {
+        bytes = bytes
+            .saturating_add(row.group.as_slice().len())
+            .saturating_add(row.headings.as_slice().len())
+            .saturating_add(row.line.as_slice().len());
+        if bytes > MOST_PROJECT_BYTES {
+            return false;
+        }
+    }
+    true
+}
+
+/// The rows, once more.
+pub(crate) fn copied_rows(alloc: Global, rows: &[HeadedRow]) -> Result<Vec<HeadedRow>, AllocError>
+    ensures { IfOk result (λ copied. copied.items ≡ rows.now) }
+{
+    let mut copied = Vec::with_capacity(alloc, rows.len())?;
+    for row in rows {
+        copied.push(row.clone()?)?;
+    }
+    Ok(copied)
 }

@@ -9,6 +9,7 @@ ghost use Rattle.reg_desk.specs.Serving.{IsAnswerOfRows, OfHeld, OnlyReads, Serv
 ghost use Rattle.reg_desk.specs.View.{DrawsFile, IsViewOf};
 
 use crate::answer::Answer;
+use crate::serving::listing::sees_project;
 use crate::serving::{are_equal_names, refused};
 use crate::view::{Look, extract};
 use ags_links::Graph;
@@ -71,8 +72,31 @@ fn draw<K: Keep>(
     draw_held(alloc, keep, &look, number, groups)
 }
 
-/// The text of the deposit's extract, if its row of PROJ is shown.
+/// The text of the deposit's extract, if its row of PROJ is shown: that is decided first, as for a listing, so that no
+/// other row is read of a deposit that is hidden.
 fn draw_held<K: Keep>(
+    alloc: Global,
+    keep: &mut K,
+    look: &Look,
+    number: u32,
+    groups: &[&[u8]],
+) -> Result<Option<Vec<u8>>, KeepError>
+    requires working { K.has_failed keep.old ≡ false }
+    requires number { K.is_sound keep.old → (0 < number) × (number ≤ length (K.deposits keep.old)) }
+    ensures reads { OnlyReads K.Keep keep.old keep.new (fails result) }
+    ensures drawn { K.is_sound keep.new → IfOk result (λ text. OfHeld K.Keep keep.old number (λ file.
+        DrawsFile look.now (names_in groups.now) text file)) }
+    ensures rows { IfOk result (λ text. IfSome text (λ t. IsOfRows t.items)) }
+    ensures refused { result ≢ Err KeepError.Full }
+{
+    if !sees_project(alloc, keep, look, number)? {
+        return Ok(None);
+    }
+    draw_seen(alloc, keep, look, number, groups)
+}
+
+/// The text of the deposit's extract, from all its rows and steps.
+fn draw_seen<K: Keep>(
     alloc: Global,
     keep: &mut K,
     look: &Look,
@@ -92,7 +116,7 @@ fn draw_held<K: Keep>(
 }
 
 /// The rows and the steps of a kept deposit.
-pub(super) fn read_view<K: Keep>(
+fn read_view<K: Keep>(
     keep: &mut K,
     number: u32,
 ) -> Result<(Vec<KeptRow>, Graph), KeepError>

@@ -6,12 +6,11 @@ ghost use Rattle.reg_store.specs.Deposit.{Deposit};
 ghost use Rattle.reg_desk.specs.Asked.{listing as asks_listing};
 ghost use Rattle.reg_desk.specs.Machine.{IsListing, held};
 ghost use Rattle.reg_desk.specs.Serving.{IsLineFor, OfHeld, OnlyReads, ServesPermitted, terms_at};
-ghost use Rattle.reg_desk.specs.View.{IsOpen, Sees, is_only};
+ghost use Rattle.reg_desk.specs.View.{Sees};
 
 use crate::answer::{Answer, Listed};
-use crate::serving::drawing::read_view;
 use crate::serving::refused;
-use crate::view::{Look, opens, sees};
+use crate::view::{Look, shows_rows};
 use ags_text::Sequence;
 use reg_policy::{Caller, Day, Name, Policy};
 use reg_store::{Keep, KeepError};
@@ -95,8 +94,8 @@ fn listed<K: Keep>(
     }))
 }
 
-/// Whether the deposit's row of PROJ is shown: one with no step to another row decides alone.
-fn sees_project<K: Keep>(
+/// Whether the deposit's row of PROJ is shown.
+pub(super) fn sees_project<K: Keep>(
     alloc: Global,
     keep: &mut K,
     look: &Look,
@@ -109,56 +108,6 @@ fn sees_project<K: Keep>(
         OfHeld K.Keep keep.old number (λ file. Sees look.now file seen)) }
     ensures refused { result ≢ Err KeepError.Full }
 {
-    let opened = open_project(alloc, keep, look, number)?;
-    let Some(row) = opened else {
-        return Ok(false);
-    };
-    let targets = keep.targets(number, row)?;
-    if are_only(&targets, row) {
-        return Ok(true);
-    }
-    seen_among_all(alloc, keep, look, number)
-}
-
-/// The number of the deposit's row of PROJ, if it may be seen: where it has no step to another row it is shown.
-fn open_project<K: Keep>(
-    alloc: Global,
-    keep: &mut K,
-    look: &Look,
-    number: u32,
-) -> Result<Option<u32>, KeepError>
-    requires working { K.has_failed keep.old ≡ false }
-    requires number { K.is_sound keep.old → (0 < number) × (number ≤ length (K.deposits keep.old)) }
-    ensures reads { OnlyReads K.Keep keep.old keep.new (fails result) }
-    ensures read { K.is_sound keep.new → IfOk result (λ row.
-        OfHeld K.Keep keep.old number (λ file. IsOpen look.now file row)) }
-    ensures refused { result ≢ Err KeepError.Full }
-{
-    let project = keep.project_row(number)?;
-    opens(alloc, look, project)
-}
-
-/// Whether each of these rows is this one.
-fn are_only(targets: &[u32], row: u32) -> bool
-    ensures { result ≡ is_only row targets.now }
-{
-    targets.iter().all(|target| *target == row)
-}
-
-/// Whether the deposit's row of PROJ is shown, from all its rows and steps.
-fn seen_among_all<K: Keep>(
-    alloc: Global,
-    keep: &mut K,
-    look: &Look,
-    number: u32,
-) -> Result<bool, KeepError>
-    requires working { K.has_failed keep.old ≡ false }
-    requires number { K.is_sound keep.old → (0 < number) × (number ≤ length (K.deposits keep.old)) }
-    ensures reads { OnlyReads K.Keep keep.old keep.new (fails result) }
-    ensures seen { K.is_sound keep.new → IfOk result (λ seen.
-        OfHeld K.Keep keep.old number (λ file. Sees look.now file seen)) }
-    ensures refused { result ≢ Err KeepError.Full }
-{
-    let (rows, graph) = read_view(keep, number)?;
-    sees(alloc, look, &rows, &graph)
+    let rows = keep.project_rows(number)?;
+    shows_rows(alloc, look, &rows)
 }

@@ -35,6 +35,5 @@ pub(crate) fn into_known(kept: Kept, size: Size) -> Known
         },
         size,
         project: None,
-        alone: None,
     }
 }

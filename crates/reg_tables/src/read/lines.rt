@@ -1,6 +1,7 @@
 //! Reads the rows that are kept of a deposit.
 
-ghost use Rattle.std.specs.Prelude.{◌≢◌, IfErr};
+ghost use Rattle.std.specs.Prelude.{◌≢◌, All, IfOk, IfErr};
+ghost use Rattle.reg_store.specs.Reading.{HasKind};
 ghost use Rattle.sqlite.specs.Held.{state};
 ghost use Rattle.reg_tables.specs.Quiet.{IsIdle, IsStill, FindsThat};
 ghost use Rattle.reg_store.specs.Keep.{fails};
@@ -23,6 +24,7 @@ pub(crate) fn read_lines<S: Alter>(
         (state S.Store conn.old) (state S.Store conn.new) }
     ensures held { FindsThat result (λ db lines. HoldsLines db number lines.items)
         (state S.Store conn.old) (state S.Store conn.new) }
+    ensures kinds { IfOk result (λ lines. All HasKind lines.items) }
     ensures refused { IfErr result (λ e. e ≢ KeepError.Full) }
     ensures quiet { IsStill (state S.Store conn.old) (state S.Store conn.new) (fails result) }
 {

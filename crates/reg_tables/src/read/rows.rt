@@ -1,11 +1,12 @@
 //! What the rows of an answer are.
 
 ghost use Rattle.std.specs.Prelude.{◌≡◌, ◌≢◌, ◌<◌, ◌^◌, ◌∷◌, [], ℕ, ℤ, pos, List, Err, length, map, IsTrue};
-ghost use Rattle.std.specs.Prelude.{IfOk, IfErr};
+ghost use Rattle.std.specs.Prelude.{All, IfOk, IfErr};
 ghost use Rattle.sqlite.specs.Order.{Row as Values, column};
 ghost use Rattle.sqlite.specs.declared.types.Value.TheVariants.{Int, Text as Words, Blob};
 ghost use Rattle.reg_policy.specs.Names.{is_name};
 ghost use Rattle.reg_policy.specs.Days.{is_day_number};
+ghost use Rattle.reg_store.specs.Reading.{HasKind};
 ghost use Rattle.reg_store.specs.Sent.{Sent};
 ghost use Rattle.reg_store.specs.Keep.{sent_of};
 ghost use Rattle.reg_tables.specs.Rows.{given_deposit, placed_row, placed_rows, step_pair, number_row};
@@ -64,6 +65,7 @@ fn only_row<'a>(rows: &'a [Row], width: usize) -> Result<&'a Row, KeepError>
 #[derive(Drop)]
 pub(crate) struct KeptLines {
     pub lines: Vec<KeptRow>,
+    ghost kinds: { All HasKind lines.items },
 }
 
 impl Gather for KeptLines {
@@ -80,6 +82,7 @@ impl Gather for KeptLines {
 
 fn line_in(at: usize, row: &Row) -> Result<KeptRow, KeepError>
     ensures read { IfOk result (λ line. row.now ≡ placed_row at line) }
+    ensures kind { IfOk result HasKind }
     ensures refused { IfErr result (λ e. e ≢ KeepError.Full) }
 {
     if row.column_count() != 4 {

@@ -20,7 +20,7 @@ loop-number-init g c =
     let state = K.deposits mid in
     let leaves = c.in_ok-numbers.ensures.leaves in
     record {
-      reads = reads_itself K mid (still_works K c.args.keep.now mid (reads_once K c.args.keep.now mid false leaves));
+      reads = reads_itself K mid (still_works K c.args.keep.now mid (reads_once K c.args.keep.now mid _ leaves));
       numbers = λ s. c.deref-number-items.ensures.value ∙ c.in_ok-numbers.ensures.numbers s
           ∙ ap (λ (l : List Deposit). numbers_from 1 c.args.project.now (sents l)) (sym (leaves.same s refl));
       so_far = λ s.
@@ -46,7 +46,7 @@ returns-in_err-line-clause-reads g c =
     let p = err_from_is_err_and c.from_residual-in_err-line.result c.from_residual-in_err-line.ensures.1 in
     let failed = is_store c.in_err-line.field-0.0 in
     subst (OnlyReads K c.args.keep.now c.listed.new.keep) (sym (ap fails p.1 ∙ ap is_store p.2))
-    (reads_more K c.args.keep.now mid c.listed.new.keep failed (reads_once K c.args.keep.now mid false c.in_ok-numbers.ensures.leaves)
+    (reads_more K c.args.keep.now mid c.listed.new.keep failed (reads_once K c.args.keep.now mid _ c.in_ok-numbers.ensures.leaves)
     (reads_more K mid c.loop-number.keep c.listed.new.keep failed c.loop-number.invariant.reads c.in_err-line.ensures.reads))
 
 pub loop-number-preserved : goal.loop-number-preserved
@@ -80,7 +80,7 @@ loop-number-preserved g c =
 
 pub returns-clause-reads : goal.returns-clause-reads
 returns-clause-reads g c =
-    reads_more g.K.Keep c.args.keep.now c.numbers.new.self c.loop-number.keep false (reads_once g.K.Keep c.args.keep.now c.numbers.new.self false c.in_ok-numbers.ensures.leaves) c.loop-number.invariant.reads
+    reads_more g.K.Keep c.args.keep.now c.numbers.new.self c.loop-number.keep false (reads_once g.K.Keep c.args.keep.now c.numbers.new.self _ c.in_ok-numbers.ensures.leaves) c.loop-number.invariant.reads
 
 pub returns-clause-listed : goal.returns-clause-listed
 returns-clause-listed g c = λ s.
@@ -88,7 +88,7 @@ returns-clause-listed g c = λ s.
     let keep = c.args.keep.now in
     let mid = c.numbers.new.self in
     let was = c.loop-number.invariant in
-    let first = reads_once K keep mid false c.in_ok-numbers.ensures.leaves in
+    let first = reads_once K keep mid _ c.in_ok-numbers.ensures.leaves in
     let lines = c.loop-number.lines.items in
     subst (λ (r : Terms). ∥ IsListing r c.args.caller.now c.args.project.now c.args.day 1 (K.deposits keep) lines ∥₁) (terms_same K c.args.policy.now keep mid false first)
     (subst (λ (l : List Deposit).

@@ -9,7 +9,7 @@ returns-then-head-clause-seen g c = λ s.
     let K = g.K.Keep in
     let keep = c.args.keep.now in
     let head = c.in_ok-head.head in
-    let first = reads_once K keep c.head.new.self false c.in_ok-head.ensures.leaves in
+    let first = reads_once K keep c.head.new.self _ c.in_ok-head.ensures.leaves in
     let h = headed K keep c.head.new.self c.args.number head c.requires.number
     (λ s0. g.met.K.Keep.fit keep s0 c.requires.working) first c.in_ok-head.ensures.read s in
     marked_unlisted K c.args.policy.now keep c.args.caller.now c.args.number c.args.day head h c.if-head.true
@@ -20,7 +20,7 @@ returns-then-not-branch-clause-seen g c = λ s.
     let keep = c.args.keep.now in
     let rules = c.args.policy.now in
     let head = c.in_ok-head.head in
-    let first = reads_once K keep c.head.new.self false c.in_ok-head.ensures.leaves in
+    let first = reads_once K keep c.head.new.self _ c.in_ok-head.ensures.leaves in
     let s1 = c.in_ok-sees_project.ensures.reads.sound s in
     let h = headed K keep c.head.new.self c.args.number head c.requires.number (λ s0. g.met.K.Keep.fit keep s0 c.requires.working) first c.in_ok-head.ensures.read s1 in
     let look = c.at-look.ensures ∙ look_same (terms_at K rules keep) c.args.caller.now c.args.day h.kept head h.of_head in
@@ -32,7 +32,7 @@ returns-clause-seen g c = λ s.
     let keep = c.args.keep.now in
     let rules = c.args.policy.now in
     let head = c.in_ok-head.head in
-    let first = reads_once K keep c.head.new.self false c.in_ok-head.ensures.leaves in
+    let first = reads_once K keep c.head.new.self _ c.in_ok-head.ensures.leaves in
     let s1 = c.in_ok-sees_project.ensures.reads.sound s in
     let h = headed K keep c.head.new.self c.args.number head c.requires.number (λ s0. g.met.K.Keep.fit keep s0 c.requires.working) first c.in_ok-head.ensures.read s1 in
     let look = c.at-look.ensures ∙ look_same (terms_at K rules keep) c.args.caller.now c.args.day h.kept head h.of_head in

@@ -15,4 +15,4 @@ checked_rows-requires c =
 pub returns-clause-read : goal.returns-clause-read
 returns-clause-read c = λ sound d file there its.
     let keep = c.args.self.now in
-    c.in_ok-rows.ensures file (subst (λ (one : Sent). IsFileOf keep.dictionary one file) (kept_is_sent keep.kept.items (c.args.n - 1) c.index.result.now d c.index.ensures there) its)
+    c.in_ok-rows.ensures.rows file (subst (λ (one : Sent). IsFileOf keep.dictionary one file) (kept_is_sent keep.kept.items (c.args.n - 1) c.index.result.now d c.index.ensures there) its)

@@ -25,6 +25,6 @@ returns-clause-leaves c =
       added = λ _. next;
       refused = λ _ _. tt;
       same_text = λ _ _. refl;
-      crash = λ _ list left. inr (left ∙ next);
+      crash = λ _ bytes list left. inr (left.0, left.1 ∙ next);
       whole = λ _ broken. broken;
     }

@@ -145,7 +145,7 @@ returns-in-Ok-added g c =
         added = λ clean. (more g base clean).list;
         refused = λ clean well. tt;
         same_text = λ clean well. text_committed old new (keep.kept c.requires.working (before clean)) (c.in-Ok-added.ensures.settled clean) (c.in-Ok-added.ensures.put clean).change.meta;
-        crash = λ clean. crash_at {old = old} {new = new} (Change g base) (next g base) (keep.kept c.requires.working (before clean)) (becomes g base clean) (crash g base) clean;
+        crash = λ clean. crash_at {old = old} {new = new} (Change g base) (next g base) (keep.kept c.requires.working (before clean)) (becomes g base clean) (λ db put. put.meta) (crash g base) clean;
         whole = λ clean. whole_next {old = old} {new = new} (Change g base) (next g base) (keep.kept c.requires.working (before clean)) (becomes g base clean) (crash g base) clean;
       };
     }
@@ -174,7 +174,7 @@ returns-in-Err-clause-leaves g c =
       added = λ clean. tt;
       refused = λ clean well. ap (λ (db : Database). deposits_in db.trees) (c.in-Err.ensures.undone clean well).1;
       same_text = λ clean well. ap (λ (db : Database). text_in db.trees) (c.in-Err.ensures.undone clean well).1;
-      crash = λ clean. crash_at {old = old} {new = new} Change (list ++ unmarked d ∷ []) (keep.kept c.requires.working (before clean)) (becomes clean) crash clean;
+      crash = λ clean. crash_at {old = old} {new = new} Change (list ++ unmarked d ∷ []) (keep.kept c.requires.working (before clean)) (becomes clean) (λ db put. put.meta) crash clean;
       whole = λ clean. whole_next {old = old} {new = new} Change (list ++ unmarked d ∷ []) (keep.kept c.requires.working (before clean)) (becomes clean) crash clean;
     }
 

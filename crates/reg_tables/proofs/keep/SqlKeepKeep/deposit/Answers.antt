@@ -33,7 +33,7 @@ returns-clause-leaves g c =
     let new = state g.S.Store c.read_deposit-found.new.conn in
     let well : fails c.read_deposit-found.result ≡ false = search (rules, c.in_ok-kept.was) in
     let still = subst (IsStill old new) well c.read_deposit-found.ensures.quiet in
-    reads_still (λ k. state g.S.Store k.connection) (λ k. k.dictionary) 999999 (λ k. k.has_failed) _ _ false still refl (c.has_store_error-self.ensures ∙ well)
+    reads_still (λ k. state g.S.Store k.connection) (λ k. k.dictionary) 999999 (λ k. k.has_failed) _ _ (Ok (record { firm = c.in_ok-kept.kept.firm; project = c.in_ok-kept.kept.project; embargo = c.in_ok-kept.kept.embargo; bytes = c.in_ok-kept.kept.bytes; withdrawn = c.is_withdrawn.result })) still refl (c.has_store_error-self.ensures ∙ well) tt
 
 pub returns-clause-read : goal.returns-clause-read
 returns-clause-read g c clean =

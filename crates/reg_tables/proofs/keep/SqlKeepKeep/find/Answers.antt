@@ -23,7 +23,7 @@ invariant_of-self-clause-agrees g c works clean =
     agrees_still (state g.S.Store c.args.self.now.connection) (state g.S.Store c.read_equal-found.new.conn) c.args.self.now.memory c.args.self.now.dictionary (c.args.self.now.agrees c.requires.working) c.read_equal-found.ensures.quiet clean (sym c.has_store_error-self.ensures ∙ works)
 
 pub returns-clause-leaves : goal.returns-clause-leaves
-returns-clause-leaves g c = reads_still (λ k. state g.S.Store k.connection) (λ k. k.dictionary) 999999 (λ k. k.has_failed) _ _ _ c.read_equal-found.ensures.quiet refl c.has_store_error-self.ensures
+returns-clause-leaves g c = reads_still (λ k. state g.S.Store k.connection) (λ k. k.dictionary) 999999 (λ k. k.has_failed) _ _ c.read_equal-found.result c.read_equal-found.ensures.quiet refl c.has_store_error-self.ensures c.read_equal-found.ensures.refused
 
 pub returns-clause-found : goal.returns-clause-found
 returns-clause-found g c clean =

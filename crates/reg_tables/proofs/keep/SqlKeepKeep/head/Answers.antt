@@ -15,7 +15,7 @@ invariant_of-self-clause-agrees g c works clean = c.args.self.now.agrees c.requi
 pub returns-clause-leaves : goal.returns-clause-leaves
 returns-clause-leaves g c =
     let still = quiet_none (state g.S.Store c.args.self.now.connection) _ c.args.self.now.idle in
-    reads_still (λ k. state g.S.Store k.connection) (λ k. k.dictionary) 999999 (λ k. k.has_failed) _ _ _ still refl c.has_store_error-self.ensures
+    reads_still (λ k. state g.S.Store k.connection) (λ k. k.dictionary) 999999 (λ k. k.has_failed) _ _ c.held_head-found.result still refl c.has_store_error-self.ensures c.held_head-found.ensures.refused
 
 pub returns-clause-read : goal.returns-clause-read
 returns-clause-read g c clean =

@@ -9,7 +9,7 @@ use Rattle.reg_tables.proofs.keep.SqlKeepKeep.numbers.Goals as goal
 pub returns-clause-leaves : goal.returns-clause-leaves
 returns-clause-leaves g c =
     let still = quiet_none (state g.S.Store c.args.self.now.connection) _ c.args.self.now.idle in
-    reads_still (λ k. state g.S.Store k.connection) (λ k. k.dictionary) 999999 (λ k. k.has_failed) _ _ _ still refl (c.requires.working ∙ sym c.held_numbers.ensures.well)
+    reads_still (λ k. state g.S.Store k.connection) (λ k. k.dictionary) 999999 (λ k. k.has_failed) _ _ c.held_numbers.result still refl (c.requires.working ∙ sym c.held_numbers.ensures.well) c.held_numbers.ensures.refused
 
 pub returns-clause-numbers : goal.returns-clause-numbers
 returns-clause-numbers g c clean =

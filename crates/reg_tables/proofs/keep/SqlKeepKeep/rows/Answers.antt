@@ -24,7 +24,7 @@ invariant_of-self-clause-agrees g c works clean =
     agrees_still (state g.S.Store keep.connection) (state g.S.Store c.read_lines-found.new.conn) keep.memory keep.dictionary (keep.agrees c.requires.working) c.read_lines-found.ensures.quiet clean (sym c.has_store_error-self.ensures ∙ works)
 
 pub returns-clause-leaves : goal.returns-clause-leaves
-returns-clause-leaves g c = reads_still (λ k. state g.S.Store k.connection) (λ k. k.dictionary) 999999 (λ k. k.has_failed) _ _ _ c.read_lines-found.ensures.quiet refl c.has_store_error-self.ensures
+returns-clause-leaves g c = reads_still (λ k. state g.S.Store k.connection) (λ k. k.dictionary) 999999 (λ k. k.has_failed) _ _ c.read_lines-found.result c.read_lines-found.ensures.quiet refl c.has_store_error-self.ensures c.read_lines-found.ensures.refused
 
 pub returns-clause-read : goal.returns-clause-read
 returns-clause-read g c clean =

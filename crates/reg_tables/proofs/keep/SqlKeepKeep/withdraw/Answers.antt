@@ -15,6 +15,10 @@ use Rattle.reg_tables.proofs.keep.SqlKeepKeep.withdraw.Given.{Over}
 use Rattle.reg_tables.proofs.keep.SqlKeepKeep.withdraw.Goals.{After-mark}
 use Rattle.reg_tables.proofs.keep.SqlKeepKeep.withdraw.Goals as goal
 
+-- a mark leaves meta
+mark_meta : {n : ℕ} {old : Database} (db : Database) → AddsMark n old db → db.trees 0 ≡ old.trees 0
+mark_meta db put = put.others.0 (λ e. absurd (let no : ◌≡◌ {A = ℕ} 0 8 = e in omega arith))
+
 pub change_tables-requires : goal.change_tables-requires
 change_tables-requires g c =
     let keep = c.args.self.now in
@@ -94,8 +98,8 @@ returns-in-Ok-clause-leaves g c =
       failing = c.requires.working;
       added = λ clean. (more g c.before clean).list;
       refused = λ clean well. tt;
-      same_text = λ clean well. text_committed old new (keep.kept c.requires.working (before clean)) (c.in-Ok.ensures.settled clean) ((c.in-Ok.ensures.made clean).change.others.0 (λ e. absurd (let no : ◌≡◌ {A = ℕ} 0 8 = e in omega arith)));
-      crash = λ clean. crash_at {old = old} {new = new} (AddsMark c.args.n) next (keep.kept c.requires.working (before clean)) (becomes g c.before clean) c.change_tables.ensures.crash clean;
+      same_text = λ clean well. text_committed old new (keep.kept c.requires.working (before clean)) (c.in-Ok.ensures.settled clean) (mark_meta _ (c.in-Ok.ensures.made clean).change);
+      crash = λ clean. crash_at {old = old} {new = new} (AddsMark c.args.n) next (keep.kept c.requires.working (before clean)) (becomes g c.before clean) mark_meta c.change_tables.ensures.crash clean;
       whole = λ clean. whole_next {old = old} {new = new} (AddsMark c.args.n) next (keep.kept c.requires.working (before clean)) (becomes g c.before clean) c.change_tables.ensures.crash clean;
     }
 
@@ -115,6 +119,6 @@ returns-in-Err-clause-leaves g c =
       added = λ clean. tt;
       refused = λ clean well. ap (λ (db : Database). deposits_in db.trees) (c.in-Err.ensures.undone clean well).1;
       same_text = λ clean well. ap (λ (db : Database). text_in db.trees) (c.in-Err.ensures.undone clean well).1;
-      crash = λ clean. crash_at {old = old} {new = new} (AddsMark c.args.n) next (keep.kept c.requires.working (before clean)) (becomes clean) c.change_tables.ensures.crash clean;
+      crash = λ clean. crash_at {old = old} {new = new} (AddsMark c.args.n) next (keep.kept c.requires.working (before clean)) (becomes clean) mark_meta c.change_tables.ensures.crash clean;
       whole = λ clean. whole_next {old = old} {new = new} (AddsMark c.args.n) next (keep.kept c.requires.working (before clean)) (becomes clean) c.change_tables.ensures.crash clean;
     }

@@ -8,4 +8,4 @@ pub returns-in-Some : goal.returns-in-Some
 returns-in-Some c = λ dictionary list agrees d file at of.
     let its = c.is_known.ensures.0 c.if-not-is_known.false in
     let one = known_sent dictionary list c.args.self.now.known.items (c.args.n - 1) c.index.result.now d agrees.known (omega (arith, its.0, its.1)) c.index.ensures at in
-    one.2.project c.in-Some.row c.in-Some.is file (subst (λ (x : Sent). IsFileOf dictionary x file) (sym one.1) of)
+    one.2.project c.in-Some.rows c.in-Some.is file (subst (λ (x : Sent). IsFileOf dictionary x file) (sym one.1) of)

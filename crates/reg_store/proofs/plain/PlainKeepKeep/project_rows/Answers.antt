@@ -3,7 +3,7 @@ use Rattle.reg_store.specs.Keep.{deposit_of}
 use Rattle.reg_store.specs.Sent.{Sent}
 use Rattle.reg_store.specs.Fit.{IsFileOf}
 use Rattle.reg_store.proofs.PlainLemmas.{kept_is_sent, kept_is_fit}
-use Rattle.reg_store.proofs.plain.PlainKeepKeep.project_row.Goals as goal
+use Rattle.reg_store.proofs.plain.PlainKeepKeep.project_rows.Goals as goal
 
 pub checked_project-requires : goal.checked_project-requires
 checked_project-requires c =
