@@ -30,7 +30,7 @@ use Rattle.reg_store.specs.Keep.{OfDeposit}
 use Rattle.reg_desk.specs.Serving.{OnlyReads}
 use Rattle.reg_desk.specs.Shown.{Look, IsPermitted, IsProjectShown}
 use Rattle.reg_desk.specs.View.{HeadedMayBeSeen, IsHeadedLine, Sees, headed_line}
-use Rattle.reg_desk.proofs.Bridges.{HasAt, IsOfProject, may_law, project_spelled, row_spelled}
+use Rattle.reg_desk.proofs.Bridges.{HasAt, may_law, project_spelled, row_spelled}
 use Rattle.reg_desk.proofs.Clean.{clean_formed, clean_keeps}
 
 -- what is found may be seen as the policy says of the row that it spells
@@ -96,6 +96,9 @@ row_of_headed (x ∷ headed) [] n h zip at = absurd zip
 
 -- ---- Rule 13: a file without findings has one row of PROJ
 
+abbrev IsOfProject : DataRow → Type 0
+IsOfProject row = row.group ≡ codes "PROJ"
+
 -- it is the first of its group
 project_first : (file : CheckedFile) → IsClean file → (n : ℕ) (r : DataRow) (p : IsRowOfGroup (contents_of file.groups) n r) → r.group ≡ codes "PROJ" → (p.group.name ≡ codes "PROJ") × (p.place ≡ 0)
 project_first file clean n r p of_project =
@@ -155,7 +158,7 @@ first_project number n first [] e = absurd cc
 first_project number n first (x ∷ rows) e = go (bytes_eq x.group project_group) refl e (λ more. first_project (number + 1) n first rows more)
   where
     go : (b : Bool) → bytes_eq x.group project_group ≡ b → (if b then Some (number, x) else project_from (number + 1) rows) ≡ Some (n, first) → (project_from (number + 1) rows ≡ Some (n, first) → bytes_eq first.group project_group ≡ true) → bytes_eq first.group project_group ≡ true
-    go true is e more = let pair : (number , x) ≡ (n , first) = cc in subst (λ (y : HeadedRow). bytes_eq y.group project_group ≡ true) (ap (λ (p : ℕ × HeadedRow). p.1) pair) is
+    go true is e more = let pair : (number, x) ≡ (n, first) = cc in subst (λ (y : HeadedRow). bytes_eq y.group project_group ≡ true) (ap (λ (p : ℕ × HeadedRow). p.1) pair) is
     go false is e more = more e
 
 module _ (look : Look) (file : CheckedFile) (clean : IsClean file) (found : List HeadedRow) (are : AreProjectRows (kept_rows file.groups) file.graph.steps found) where
@@ -193,13 +196,16 @@ module _ (look : Look) (file : CheckedFile) (clean : IsClean file) (found : List
       let front = first_item found some in
       let its = (are front.0).0 front.1 in
       let n = its.1.0 in
-      let first = its_row n its.1.1.0 its.1.1.1 in
-      (n, (first.0, first.1, first.2), λ m walk.
-      let s = reached_row m walk.0 n first.0 first.1 walk.1 in
-      let there = headed_of headed rows m s.0 zip s.1 in
-      let in_found = (are there.0).1 (m, (n, its.1.1, (reach_graph n m).0 walk), there.1) in
-      let seen = subst (λ (x : HeadedRow). HeadedMayBeSeen look x true) in_found.2 (all in_found.0 there.0 in_found.1) in
-      (s.0, s.1, (headed_law look there.0 true seen s.0 there.2.0).0 refl))
+      let first = its_row n its.1.1.0 its.1.1.1 in (
+        n,
+        (first.0, first.1, first.2),
+        λ m walk.
+            let s = reached_row m walk.0 n first.0 first.1 walk.1 in
+            let there = headed_of headed rows m s.0 zip s.1 in
+            let in_found = (are there.0).1 (m, (n, its.1.1, (reach_graph n m).0 walk), there.1) in
+            let seen = subst (λ (x : HeadedRow). HeadedMayBeSeen look x true) in_found.2 (all in_found.0 there.0 in_found.1) in
+            (s.0, s.1, (headed_law look there.0 true seen s.0 there.2.0).0 refl),
+      )
 
   -- one that is found may not be seen
   pub one_hidden : (h : HeadedRow) → Contains found h → HeadedMayBeSeen look h false → IsProjectShown look (file_of file) → ⊥
@@ -254,4 +260,3 @@ pub within_after : {K : Type 0} (keep : Ghosts K) (old new : K) (number : ℕ) �
     → keep.is_sound new → (0 < number) × (number ≤ length (keep.deposits new))
 within_after keep old new number reads within s = subst (λ (l : List Deposit). (0 < number) × (number ≤ length l))
     (sym (reads.same s refl)) (within (reads.sound s))
-

@@ -18,7 +18,8 @@ use Rattle.reg_store.specs.declared.keep.KeptRow.{KeptRow}
 use Rattle.reg_store.specs.Fit.{kept_row, group_rows, kept_rows}
 use Rattle.reg_desk.specs.Extract.{IsOfRows, IsRowOrEmpty}
 use Rattle.reg_desk.specs.View.{AreRows, IsSpelledRow, IsViewOf, is_written, line_end, line_where, plain_lines, separator, text_from, with_group}
-use Rattle.reg_desk.proofs.Bridges.{kept_contents, lines_count, lines_spelled, row_spelled}
+use Rattle.reg_store.proofs.Lemmas.{kept_contents}
+use Rattle.reg_desk.proofs.Bridges.{lines_count, lines_spelled, row_spelled}
 
 -- ---- texts that are made of rows
 

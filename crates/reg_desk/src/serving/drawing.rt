@@ -1,12 +1,13 @@
 //! An extract, from the rows and steps that are kept of a deposit.
 
 ghost use Rattle.std.specs.Prelude.{◌≡◌, ◌≢◌, ◌<◌, ◌≤◌, false, length, option_map, Err, IfOk, IfSome};
+ghost use Rattle.ags_check.specs.Findings.{file_of};
 ghost use Rattle.reg_store.specs.Keep.{fails};
 ghost use Rattle.reg_desk.specs.Asked.{extract as asks_extract, names_in};
-ghost use Rattle.reg_desk.specs.Extract.{IsOfRows};
+ghost use Rattle.reg_desk.specs.Extract.{IsExtractText, IsOfRows};
 ghost use Rattle.reg_desk.specs.Machine.{IsDrawnFrom, held};
 ghost use Rattle.reg_desk.specs.Serving.{IsAnswerOfRows, OfHeld, OnlyReads, ServesPermitted, terms_at, text_answer};
-ghost use Rattle.reg_desk.specs.View.{DrawsFile, IsViewOf};
+ghost use Rattle.reg_desk.specs.View.{IsExtractOf, IsViewOf};
 
 use crate::answer::Answer;
 use crate::serving::listing::sees_project;
@@ -85,14 +86,15 @@ fn draw_held<K: Keep>(
     requires number { K.is_sound keep.old → (0 < number) × (number ≤ length (K.deposits keep.old)) }
     ensures reads { OnlyReads K.Keep keep.old keep.new (fails result) }
     ensures drawn { K.is_sound keep.new → IfOk result (λ text. OfHeld K.Keep keep.old number (λ file.
-        DrawsFile look.now (names_in groups.now) text file)) }
+        IsExtractOf look.now (file_of file) (names_in groups.now) (option_map (λ t. t.items) text))) }
     ensures rows { IfOk result (λ text. IfSome text (λ t. IsOfRows t.items)) }
     ensures refused { result ≢ Err KeepError.Full }
 {
     if !sees_project(alloc, keep, look, number)? {
         return Ok(None);
     }
-    draw_seen(alloc, keep, look, number, groups)
+    let text = draw_seen(alloc, keep, look, number, groups)?;
+    Ok(Some(text))
 }
 
 /// The text of the deposit's extract, from all its rows and steps.
@@ -102,13 +104,13 @@ fn draw_seen<K: Keep>(
     look: &Look,
     number: u32,
     groups: &[&[u8]],
-) -> Result<Option<Vec<u8>>, KeepError>
+) -> Result<Vec<u8>, KeepError>
     requires working { K.has_failed keep.old ≡ false }
     requires number { K.is_sound keep.old → (0 < number) × (number ≤ length (K.deposits keep.old)) }
     ensures reads { OnlyReads K.Keep keep.old keep.new (fails result) }
     ensures drawn { K.is_sound keep.new → IfOk result (λ text. OfHeld K.Keep keep.old number (λ file.
-        DrawsFile look.now (names_in groups.now) text file)) }
-    ensures rows { IfOk result (λ text. IfSome text (λ t. IsOfRows t.items)) }
+        IsExtractText look.now (file_of file) (names_in groups.now) text.items)) }
+    ensures rows { IfOk result (λ text. IsOfRows text.items) }
     ensures refused { result ≢ Err KeepError.Full }
 {
     let (rows, graph) = read_view(keep, number)?;
@@ -116,10 +118,7 @@ fn draw_seen<K: Keep>(
 }
 
 /// The rows and the steps of a kept deposit.
-fn read_view<K: Keep>(
-    keep: &mut K,
-    number: u32,
-) -> Result<(Vec<KeptRow>, Graph), KeepError>
+fn read_view<K: Keep>(keep: &mut K, number: u32) -> Result<(Vec<KeptRow>, Graph), KeepError>
     requires working { K.has_failed keep.old ≡ false }
     requires number { K.is_sound keep.old → (0 < number) × (number ≤ length (K.deposits keep.old)) }
     ensures reads { OnlyReads K.Keep keep.old keep.new (fails result) }

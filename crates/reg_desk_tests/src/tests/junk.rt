@@ -1,7 +1,8 @@
 //! A store that is not sound: where one line of a file is none, no extract shows it.
 
-ghost use Rattle.std.specs.Prelude.{◌≡◌, ◌<◌, ◌≤◌, [], false, length, IsTrue, refl};
+ghost use Rattle.std.specs.Prelude.{◌≡◌, ◌<◌, ◌≤◌, [], All, false, length, IsTrue, refl};
 ghost use Rattle.reg_store.specs.Plain.{deposits_of};
+ghost use Rattle.reg_store.specs.Reading.{HasKind};
 
 use super::examples::MOST;
 use super::memory_of;
@@ -14,7 +15,7 @@ use ags_text::{Bytes, Sequence};
 use reg_desk::{Answer, Desk, Request};
 use reg_policy::vectors::{CALLERS, POLICY};
 use reg_policy::{Caller, Callers, Day, Name, Policy};
-use reg_store::{Keep, KeepError, Kept, KeptHead, KeptRow, PlainKeep, ProjectRow};
+use reg_store::{HeadedRow, Keep, KeepError, Kept, KeptHead, KeptRow, PlainKeep};
 use std::alloc::Global;
 use std::mem::swap;
 
@@ -43,11 +44,14 @@ fn has(keep: &PlainKeep, n: u32) -> bool
 }
 
 /// Puts the text in place of this part of the row there.
-fn put(rows: &mut [KeptRow], part: Part, place: usize, text: &mut Bytes) {
-    if let Some(row) = rows.get_mut(place) {
+fn put(rows: &mut Vec<KeptRow>, part: Part, place: usize, text: &mut Bytes)
+    requires { All HasKind rows.old.items }
+    ensures { All HasKind rows.new.items }
+{
+    if place < rows.len() {
         match part {
-            Part::Line => swap(&mut row.line, text),
-            Part::Group => swap(&mut row.group, text),
+            Part::Line => swap(&mut rows[place].line, text),
+            Part::Group => swap(&mut rows[place].group, text),
         }
     }
 }
@@ -65,7 +69,7 @@ impl Keep for Junked {
 
     ghost has_failed = { λ _. false };
 
-    ghost may_leave = { λ k list. list ≡ deposits_of k.keep };
+    ghost may_leave = { λ k bytes list. (bytes ≡ []) × (list ≡ deposits_of k.keep) };
 
     ghost may_break = { λ _. ⊥ };
 
@@ -127,12 +131,12 @@ impl Keep for Junked {
         }
     }
 
-    fn project_row(&mut self, _n: u32) -> Result<Option<ProjectRow>, KeepError> {
-        Err(KeepError::NoMemory)
-    }
-
-    fn targets(&mut self, _n: u32, _row: u32) -> Result<Vec<u32>, KeepError> {
-        Err(KeepError::NoMemory)
+    fn project_rows(&mut self, n: u32) -> Result<Vec<HeadedRow>, KeepError> {
+        if has(&self.keep, n) {
+            self.keep.project_rows(n)
+        } else {
+            Err(KeepError::NoMemory)
+        }
     }
 
     fn count(&self) -> u32 {
@@ -147,9 +151,9 @@ impl Keep for Junked {
         self.keep.dictionary()
     }
 
-    ghost settled = { λ _ _ _ _ same. same };
+    ghost settled = { λ _ _ _ _ _ same. same };
 
-    ghost stays = { λ _ _ _. ∣ refl ∣₁ };
+    ghost stays = { λ _ _ _. ∣ (refl, refl) ∣₁ };
 
     ghost unbroken = { λ _ _ _ none. none };
 

@@ -6,7 +6,7 @@ use ags_check::Checked;
 use ags_dict::Dictionary;
 use ags_links::Graph;
 use reg_policy::{Day, Name};
-use reg_store::{Keep, KeepError, Kept, KeptHead, KeptRow, PlainKeep, ProjectRow};
+use reg_store::{HeadedRow, Keep, KeepError, Kept, KeptHead, KeptRow, PlainKeep};
 
 /// A store in memory that answers `Store` where its body is asked for, and at the call after so many other calls.
 #[derive(Drop)]
@@ -54,7 +54,7 @@ impl Keep for Refusing {
 
     ghost has_failed = { λ k. k.failed };
 
-    ghost may_leave = { λ k list. list ≡ deposits_of k.keep };
+    ghost may_leave = { λ k bytes list. (bytes ≡ []) × (list ≡ deposits_of k.keep) };
 
     ghost may_break = { λ _. ⊥ };
 
@@ -125,18 +125,11 @@ impl Keep for Refusing {
         self.keep.steps(n)
     }
 
-    fn project_row(&mut self, n: u32) -> Result<Option<ProjectRow>, KeepError> {
+    fn project_rows(&mut self, n: u32) -> Result<Vec<HeadedRow>, KeepError> {
         if self.fails() {
             return Err(KeepError::Store);
         }
-        self.keep.project_row(n)
-    }
-
-    fn targets(&mut self, n: u32, row: u32) -> Result<Vec<u32>, KeepError> {
-        if self.fails() {
-            return Err(KeepError::Store);
-        }
-        self.keep.targets(n, row)
+        self.keep.project_rows(n)
     }
 
     fn count(&self) -> u32 {
@@ -151,13 +144,13 @@ impl Keep for Refusing {
         self.keep.dictionary()
     }
 
-    ghost settled = { λ _ _ _ _ same. same };
+    ghost settled = { λ _ _ _ _ _ same. same };
 
-    ghost stays = { λ _ _ _. ∣ refl ∣₁ };
+    ghost stays = { λ _ _ _. ∣ (refl, refl) ∣₁ };
 
     ghost unbroken = { λ _ _ _ none. none };
 
-    ghost remains = { λ k _ _ none. none (deposits_of k.keep) refl };
+    ghost remains = { λ k _ _ none. none [] (deposits_of k.keep) (refl, refl) };
 
     ghost fit = { λ k _ _. fit_of (dictionary_of k.keep) (sents (deposits_of k.keep)) k.keep.fit };
 

@@ -1,4 +1,4 @@
-use Rattle.std.proofs.Common.{ℕ, List, Option, Vec, Global, sym, subst}
+use Rattle.std.proofs.Common.{ℕ, List, Vec, Global, sym, subst}
 use Rattle.std.proofs.lemmas.Result.{IfOk-weaker}
 use Rattle.reg_store.specs.Keep.{fails}
 use Rattle.reg_store.specs.declared.keep.KeptRow.{KeptRow}
@@ -17,5 +17,5 @@ returns-clause-reads g c =
 
 pub returns-clause-drawn : goal.returns-clause-drawn
 returns-clause-drawn g c = λ s.
-    IfOk-weaker c.extract.result _ _ (λ (text : Option (Vec ℕ Global)) drawn d file at is. drawn file (subst (λ (r : List KeptRow). IsViewOf r c.in_ok-rows.graph file) (sym c.deref.ensures.value) (c.in_ok-rows.ensures.seen s d file at is)))
+    IfOk-weaker c.extract.result _ _ (λ (text : Vec ℕ Global) drawn d file at is. drawn file (subst (λ (r : List KeptRow). IsViewOf r c.in_ok-rows.graph file) (sym c.deref.ensures.value) (c.in_ok-rows.ensures.seen s d file at is)))
     c.extract.ensures.drawn
