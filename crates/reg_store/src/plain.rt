@@ -9,6 +9,7 @@ ghost use Rattle.reg_store.specs.Reading.{HasGraph, HasKeptRows, HasProjectRow, 
 ghost use Rattle.reg_store.specs.PlainLaws.{few_of, fit_of};
 
 use crate::keep::{Keep, KeepError, Kept, KeptHead, KeptRow, MOST, ProjectRow, is_equal};
+use crate::next_start::NextStart;
 use crate::project::{project_in, targets_in};
 use crate::rows::kept_rows;
 use ags_check::{CheckError, Checked, check};
@@ -298,6 +299,13 @@ fn checked_project(
 {
     let rows = checked_rows(alloc, dictionary, kept)?;
     project_in(alloc, &rows)
+}
+
+/// Nothing opens it again.
+impl NextStart for PlainKeep {
+    fn is_nearly_full(&self) -> bool {
+        false
+    }
 }
 
 /// The rows to which a row of a deposit's file has a step.
