@@ -122,6 +122,10 @@ class Place:
         return server
 
 
+# What is said where the next start will need more than three quarters of the memory that is allowed.
+NEARLY_FULL = b"groundreg: the next start needs more than three quarters of the memory that is allowed\n"
+
+
 def asking(command, *more, **other):
     """The arguments of a command that asks a register; `other` are the options that are not as usual."""
     options = {"store": "register", "policy": "policy", "callers": "callers", "token": "t-delta", "project": "N1",

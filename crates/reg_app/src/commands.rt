@@ -16,7 +16,7 @@ use reg_cli::{
 };
 use reg_desk::{Desk, Request};
 use reg_policy::{Day, Policy};
-use reg_store::Keep;
+use reg_store::{Keep, NextStart};
 use std::alloc::Global;
 use std::convert::AsStr;
 use std::io::{Read, Write};
@@ -196,5 +196,21 @@ pub(crate) fn open_shown<'w, G: Registers, E: Write>(
 {
     let is_wanted = machine.is_terminal || shows_progress;
     let mut lines = ProgressLines::new(rt.alloc(), rt, err, is_wanted);
-    open_register(rt, rt.alloc(), machine.registers, path, &mut lines)
+    let kept = open_register(rt, rt.alloc(), machine.registers, path, &mut lines)?;
+    let _told = tell_if_nearly_full(&kept, err);
+    Ok(kept)
 }
+
+/// Whether the next start will need more than three quarters of the memory that a process may take. If so it is said on
+/// standard error; what that does not take is no fault.
+pub(crate) fn tell_if_nearly_full<K: NextStart, E: Write>(keep: &K, err: &mut Watched<E>) -> bool {
+    let is_nearly_full = keep.is_nearly_full();
+    if is_nearly_full {
+        let _said = tell(err, NEARLY_FULL, 0);
+    }
+    is_nearly_full
+}
+
+/// What is said where the next start will need more than three quarters of the memory that a process may take.
+const NEARLY_FULL: &[u8] =
+    b"groundreg: the next start needs more than three quarters of the memory that is allowed\n";

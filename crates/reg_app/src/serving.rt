@@ -2,7 +2,7 @@
 
 ghost use Rattle.std.specs.Prelude.{◌≡◌, false};
 
-use crate::commands::{Machine, open_shown};
+use crate::commands::{Machine, open_shown, tell_if_nearly_full};
 use crate::connection::{drain_peer, serve_accepted};
 use crate::listener::{Listener, Stream};
 use crate::log::Log;
@@ -16,7 +16,7 @@ use itoa::Buffer;
 use reg_cli::{Digests, Failure, Place, Rights, Service, day_or, read_rights};
 use reg_desk::Desk;
 use reg_policy::{Callers, Day, Policy};
-use reg_store::Keep;
+use reg_store::{Keep, NextStart};
 use std::alloc::Global;
 use std::fs::File;
 use std::io::Write;
@@ -26,7 +26,15 @@ use std::{fs, io};
 /// Serves connections, one after the other: writes the line of the log before each reply, and then prints the status of
 /// the reply, or `fault`. `Stream` where such a line is not written, and `StoreFailed` where that ends it. Before each
 /// connection it looks whether rights and log are to be read anew. The store is returned. No clause says so.
-pub fn serve_on<'w, K: Keep, C: Clock, L: Write + Drop, R: Reload<'w, L>, W: Write, E: Write>(
+pub fn serve_on<
+    'w,
+    K: Keep + NextStart,
+    C: Clock,
+    L: Write + Drop,
+    R: Reload<'w, L>,
+    W: Write,
+    E: Write,
+>(
     alloc: Global,
     clock: &C,
     listener: &Listener,
@@ -38,6 +46,7 @@ pub fn serve_on<'w, K: Keep, C: Clock, L: Write + Drop, R: Reload<'w, L>, W: Wri
 ) -> (Result<(), Fault>, K) {
     let mut running = running;
     let mut served = Ok(());
+    let mut is_nearly_full = running.desk.keep().is_nearly_full();
     for _ in 0..serving.connections {
         let accepted = listener.accept();
         let moment = Moment::now(clock);
@@ -48,6 +57,7 @@ pub fn serve_on<'w, K: Keep, C: Clock, L: Write + Drop, R: Reload<'w, L>, W: Wri
             let trusted = trusted(serving, &moment, &running, err);
             served = serve_next(alloc, clock, &accepted, trusted, serving, &mut running, out);
         }
+        is_nearly_full = is_nearly_full || tell_if_nearly_full(running.desk.keep(), err);
         if served.is_err() {
             break;
         }
@@ -263,7 +273,7 @@ fn given_day(service: &Service<'_>, today: Option<Day>) -> Result<Option<Day>, F
 }
 
 /// Listens, and serves from a store, which is returned.
-fn serve_keep<'w, K: Keep, R: Reload<'w, File>, W: Write, E: Write>(
+fn serve_keep<'w, K: Keep + NextStart, R: Reload<'w, File>, W: Write, E: Write>(
     rt: &HostRuntime,
     service: &Service<'w>,
     serving: &Serving,

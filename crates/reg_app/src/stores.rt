@@ -6,7 +6,7 @@ use crate::progress::ProgressLines;
 use ags_cli::Fault;
 use ags_rows::READABLE;
 use reg_cli::Failure;
-use reg_store::{Keep, Progress};
+use reg_store::{Keep, NextStart, Progress};
 use std::alloc::Global;
 use std::convert::AsStr;
 use std::fs;
@@ -19,7 +19,7 @@ use std::time::Clock;
 /// What makes and opens registers at paths.
 pub trait Registers: Drop {
     /// A register that is open.
-    type Kept: Keep;
+    type Kept: Keep + NextStart;
 
     /// Makes an empty register at a path under the dictionary that the bytes are, and closes it.
     fn create<'w>(

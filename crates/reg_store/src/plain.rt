@@ -9,6 +9,7 @@ ghost use Rattle.reg_store.specs.Reading.{HasGraph, HasKeptRows, HasKind, HasPro
 ghost use Rattle.reg_store.specs.PlainLaws.{few_of, fit_of};
 
 use crate::keep::{HeadedRow, Keep, KeepError, Kept, KeptHead, KeptRow, MOST, is_equal};
+use crate::next_start::NextStart;
 use crate::project::project_rows_in;
 use crate::rows::kept_rows;
 use ags_check::{CheckError, Checked, check};
@@ -290,6 +291,13 @@ fn checked_project(
     let checked = recheck(alloc, dictionary, kept)?;
     let rows = kept_rows(alloc, checked.scan().groups())?;
     project_rows_in(alloc, &rows, checked.graph())
+}
+
+/// Nothing opens it again.
+impl NextStart for PlainKeep {
+    fn is_nearly_full(&self) -> bool {
+        false
+    }
 }
 
 /// The numbers of a project's deposits, rising.

@@ -23,7 +23,7 @@ use ags_check::Checked;
 use ags_dict::Dictionary;
 use ags_links::Graph;
 use reg_policy::{Day, Name};
-use reg_store::{HeadedRow, Keep, KeepError, Kept, KeptHead, KeptRow, MOST};
+use reg_store::{HeadedRow, Keep, KeepError, Kept, KeptHead, KeptRow, MOST, NextStart};
 use sqlite::{Alter, Connection};
 use std::alloc::Global;
 
@@ -200,12 +200,13 @@ impl<S: Alter> Keep for SqlKeep<S> {
     ghost few = { λ k clean works. few_at (k.kept works clean) };
 }
 
-impl<S: Alter> SqlKeep<S> {
-    /// The bytes of address space that a start is reckoned to take which opens this register.
-    pub fn next_start(&self) -> u64 {
-        self.memory.next_start()
+impl<S: Alter> NextStart for SqlKeep<S> {
+    fn is_nearly_full(&self) -> bool {
+        self.memory.is_nearly_full(self.alloc)
     }
+}
 
+impl<S: Alter> SqlKeep<S> {
     /// The connection, whose tables are the register of this list where the store has not failed and the disk is clean.
     pub fn into_connection(self) -> Connection<S>
         ensures connection { result ≡ self.connection }

@@ -93,9 +93,9 @@ impl Memory {
         0 < n && n as usize <= self.known.len()
     }
 
-    /// The bytes of memory that a start takes which opens the register.
-    pub(crate) fn next_start(&self) -> u64 {
-        self.room.next_start()
+    /// Whether the next start will need more than three quarters of the memory that a process may take.
+    pub(crate) fn is_nearly_full(&self, alloc: Global) -> bool {
+        self.room.is_nearly_full(alloc)
     }
 
     /// Takes the memory that a start will take beyond what the process holds now, and drops it.

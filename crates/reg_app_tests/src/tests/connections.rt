@@ -8,7 +8,7 @@ use reg_app::{Listener, Log, Look, Reload, Running, Serving, serve_on};
 use reg_desk::Desk;
 use reg_policy::vectors::{CALLERS, POLICY};
 use reg_policy::{Callers, Policy};
-use reg_store::{Keep, PlainKeep};
+use reg_store::{Keep, NextStart, PlainKeep};
 use std::alloc::Global;
 use std::cell::Cell;
 use std::io;
@@ -337,7 +337,7 @@ fn serve_some<C: Clock, W: Write, L: Write + Drop>(
 }
 
 /// Serves what runs: the status of the run.
-fn serve_running<K: Keep + Drop, C: Clock, W: Write, L: Write + Drop>(
+fn serve_running<K: Keep + NextStart + Drop, C: Clock, W: Write, L: Write + Drop>(
     alloc: Global,
     clock: &C,
     listener: &Listener,

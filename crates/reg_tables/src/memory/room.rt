@@ -125,7 +125,7 @@ impl Room {
     }
 
     /// The bytes of memory that a start takes which opens the register.
-    pub(crate) fn next_start(&self) -> u64 {
+    fn next_start(&self) -> u64 {
         self.now
             .reckoned(&AT_A_START)
             .saturating_add(self.now.check)
@@ -133,9 +133,19 @@ impl Room {
 
     /// Takes the memory that a start will take beyond what this process holds, and drops it.
     pub(crate) fn try_start(&self, alloc: Global) -> Result<(), AllocError> {
+        self.take(alloc, self.next_start())
+    }
+
+    /// Whether a start will need more than three quarters of the memory that a process may take.
+    pub(crate) fn is_nearly_full(&self, alloc: Global) -> bool {
+        let start = self.next_start();
+        self.take(alloc, start.saturating_add(start / 3)).is_err()
+    }
+
+    /// Takes so many bytes of memory, less those that this process holds of the register, and drops them.
+    fn take(&self, alloc: Global, bytes: u64) -> Result<(), AllocError> {
         let held = self.opened.reckoned(&HELD);
-        let beyond = self.next_start().saturating_sub(held);
-        let _taken: Vec<u8> = Vec::with_capacity(alloc, beyond as usize)?;
+        let _taken: Vec<u8> = Vec::with_capacity(alloc, bytes.saturating_sub(held) as usize)?;
         Ok(())
     }
 }
