@@ -6,8 +6,9 @@ mod rows;
 
 use ags_check::{CheckError, check, findings};
 use ags_dict::Dictionary;
-use ags_rows::vectors::{FILE_A, FILE_B, FILE_C, MINI};
+use ags_rows::built_in::MINI;
 use ags_rows::{FindingList, READABLE};
+use samples_of_tests::{FILE_A, FILE_B, FILE_C};
 use std::alloc::{AllocError, Global};
 use std::fmt::Write;
 

@@ -1,7 +1,7 @@
 -- The built-in dictionary has no findings.
 use Rattle.std.proofs.Common.{◌≢◌, List, []}
 use Rattle.ags_rows.specs.declared.finding.Finding.{Finding}
-use Rattle.ags_rows.specs.declared.vectors.TheConstants.{MINI}
+use Rattle.ags_rows.specs.declared.built_in.TheConstants.{MINI}
 use Rattle.ags_rows.specs.Findings.{LooseFindings}
 use Rattle.ags_rows.specs.Laws.{OneListOfFindings}
 use Rattle.ags_dict.specs.Entries.{Entries}

@@ -1,6 +1,6 @@
 -- What follows from the definitions alone.
 use Rattle.std.specs.Prelude.{◌≡◌, ℕ, ◌+◌, List, length}
-use Rattle.ags_rows.specs.declared.vectors.TheConstants.{MINI}
+use Rattle.ags_rows.specs.declared.built_in.TheConstants.{MINI}
 use Rattle.ags_rows.specs.Mini.{mini_rows}
 use Rattle.ags_dict.specs.Entries.{Entries}
 use Rattle.ags_dict.specs.Mini.{mini_entries}

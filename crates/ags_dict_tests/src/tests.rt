@@ -1,9 +1,10 @@
 mod caller;
 
 use ags_dict::{DictError, Dictionary};
-use ags_rows::vectors::{FILE_A, MINI};
+use ags_rows::built_in::MINI;
 use ags_rows::{FindingList, READABLE, Scan};
 use ags_text::Sequence;
+use samples_of_tests::FILE_A;
 use std::alloc::{AllocError, Global};
 use std::fmt::Write;
 use std::test::Fail;

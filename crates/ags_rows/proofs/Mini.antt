@@ -1,7 +1,7 @@
 -- MINI is the file that is written of its table.
 use Rattle.std.proofs.Common.{◌≡◌, ℕ, List, [], refl, sym, subst}
 use Rattle.ags_rows.specs.declared.rows.Group.{Group}
-use Rattle.ags_rows.specs.declared.vectors.TheConstants.{MINI}
+use Rattle.ags_rows.specs.declared.built_in.TheConstants.{MINI}
 use Rattle.ags_rows.specs.Contents.{contents_of}
 use Rattle.ags_rows.specs.Findings.{RowFindings, FileGroups}
 use Rattle.ags_rows.specs.Writing.{IsWellFormed, written_file}

@@ -12,7 +12,7 @@ use Rattle.ags_rows.specs.declared.rows.Descriptor.TheVariants as kinds
 use Rattle.ags_rows.specs.Groups.{row_count}
 use Rattle.ags_rows.specs.RowTexts.{each_data_row, row_text, row_texts, is_data_text}
 use Rattle.ags_rows.specs.declared.TheConstants.{LIMIT, READABLE}
-use Rattle.ags_rows.specs.declared.vectors.TheConstants.{MINI}
+use Rattle.ags_rows.specs.declared.built_in.TheConstants.{MINI}
 use Rattle.ags_rows.specs.Mini.{mini_contents}
 use Rattle.ags_rows.specs.declared.code.Code.{Code}
 use Rattle.ags_rows.specs.Codes.{codes_in_order}

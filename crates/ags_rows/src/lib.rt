@@ -1,6 +1,7 @@
 //! Lines, rows and groups of an AGS4 file.
 #![tactic(auto)]
 
+pub mod built_in;
 mod checking;
 mod code;
 mod contents;
@@ -12,7 +13,6 @@ mod places;
 mod rows;
 mod scanning;
 mod spelling;
-pub mod vectors;
 mod writing;
 
 pub use ags_text::{Cell, is_definition};

@@ -6,7 +6,7 @@ mod connections;
 mod progress;
 
 use ags_cli::{Watched, run_without_words};
-use ags_rows::vectors::FILE_A;
+use samples_of_tests::FILE_A;
 use std::alloc::Global;
 use std::cmp::min;
 use std::io;

@@ -7,13 +7,13 @@ mod slow;
 
 use ags_dict::Dictionary;
 use ags_rows::READABLE;
-use ags_rows::vectors::{FILE_A, MINI};
+use ags_rows::built_in::MINI;
 use reg_desk::Desk;
 use reg_http::{IoFault, Served, Tally, serve_list, serve_one};
-use reg_policy::vectors::{CALLERS, POLICY};
 use reg_policy::{Callers, Day, Policy};
 use reg_store::{Keep, PlainKeep};
 use replies::replies_on;
+use samples_of_tests::{CALLERS, FILE_A, POLICY};
 use slow::{reads_deposit, writes_twice};
 use std::alloc::{AllocError, Global};
 use std::env::Env;

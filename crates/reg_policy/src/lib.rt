@@ -13,7 +13,6 @@ mod policy;
 mod rule;
 mod rules;
 mod subject;
-pub mod vectors;
 
 pub use callers::{Caller, Callers, CallersError};
 pub use day::Day;

@@ -7,7 +7,8 @@ ghost use Rattle.ags_check.specs.Findings.{Findings};
 
 use ags_check::findings;
 use ags_dict::Dictionary;
-use ags_rows::vectors::{FILE_A, MINI};
+use ags_rows::built_in::MINI;
+use samples_of_tests::FILE_A;
 use std::alloc::{AllocError, Global};
 use std::test::Fail;
 

@@ -6,7 +6,7 @@ ghost use Rattle.ags_dict.specs.Entries.{Entries, keys_of};
 ghost use Rattle.ags_dict.specs.Reading.{IsDictionary};
 
 use ags_dict::{DictError, Dictionary};
-use ags_rows::vectors::MINI;
+use ags_rows::built_in::MINI;
 use std::alloc::Global;
 
 /// How many KEY headings a dictionary gives a group, or why the bytes are no dictionary.

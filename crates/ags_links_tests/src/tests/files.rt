@@ -1,8 +1,9 @@
 //! The worked examples of files. Where memory wants, no answer is the wanted one.
 use ags_dict::Dictionary;
 use ags_links::{Graph, Index, Targets, step_count};
-use ags_rows::vectors::{FILE_A, FILE_B, FILE_C, MINI};
+use ags_rows::built_in::MINI;
 use ags_rows::{READABLE, Scan};
+use samples_of_tests::{FILE_A, FILE_B, FILE_C};
 use std::alloc::{AllocError, Global};
 use std::fmt::Write;
 

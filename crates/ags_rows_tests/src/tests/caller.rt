@@ -6,8 +6,8 @@ ghost use Rattle.ags_rows.specs.declared.rows.Group.{Group};
 ghost use Rattle.ags_rows.specs.Findings.{FileGroups};
 ghost use Rattle.ags_rows.specs.Groups.{row_count};
 
-use ags_rows::vectors::FILE_A;
 use ags_rows::{RowsError, Scan};
+use samples_of_tests::FILE_A;
 use std::alloc::Global;
 
 /// How many DATA rows a file has, or its findings of the first three phases.

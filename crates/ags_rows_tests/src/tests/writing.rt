@@ -1,7 +1,8 @@
 use crate::tests::{Read, scan};
-use ags_rows::vectors::{FILE_A, FILE_B, FILE_C, MINI};
+use ags_rows::built_in::MINI;
 use ags_rows::{Descriptor, Group, Row, Scan, cells, quote, write_group, write_line, write_row};
 use ags_text::{Cell, Sequence};
+use samples_of_tests::{FILE_A, FILE_B, FILE_C};
 use std::alloc::{AllocError, Global};
 use std::test::Fail;
 

@@ -4,12 +4,12 @@ ghost use Rattle.std.specs.Prelude.{◌≡◌, false};
 
 use ags_cli::Watched;
 use ags_dict::Dictionary;
-use ags_rows::vectors::{FILE_A, FILE_B, MINI};
+use ags_rows::built_in::MINI;
 use reg_cli::{Action, Asker, Session, Token, ask_desk, ask_of, session_of};
 use reg_desk::Desk;
-use reg_policy::vectors::{CALLERS, POLICY};
 use reg_policy::{Callers, Policy, Verb};
 use reg_store::{Keep, PlainKeep};
+use samples_of_tests::{CALLERS, FILE_A, FILE_B, POLICY};
 use std::alloc::Global;
 use std::test::Fail;
 

@@ -1,12 +1,12 @@
 //! The caller in README.md of reg_cli.
 
+use samples_of_tests::{CALLERS, POLICY};
 use super::answers::DELTA;
 use ags_cli::Watched;
 use ags_dict::Dictionary;
-use ags_rows::vectors::MINI;
+use ags_rows::built_in::MINI;
 use reg_cli::{Asker, ask_desk, session_of};
 use reg_desk::{Desk, Request};
-use reg_policy::vectors::{CALLERS, POLICY};
 use reg_policy::{Callers, Policy};
 use reg_store::{Keep, PlainKeep};
 use std::alloc::Global;

@@ -1,12 +1,12 @@
 //! Connections that are served, over loopback.
 
+use samples_of_tests::{CALLERS, FILE_A, POLICY};
 use super::{Failing, failing_after};
 use ags_cli::Watched;
 use ags_dict::Dictionary;
-use ags_rows::vectors::{FILE_A, MINI};
+use ags_rows::built_in::MINI;
 use reg_app::{Listener, Log, Look, Reload, Running, Serving, serve_on};
 use reg_desk::Desk;
-use reg_policy::vectors::{CALLERS, POLICY};
 use reg_policy::{Callers, Policy};
 use reg_store::{Keep, NextStart, PlainKeep};
 use std::alloc::Global;

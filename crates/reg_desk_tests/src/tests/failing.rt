@@ -2,6 +2,7 @@
 
 ghost use Rattle.std.specs.Prelude.{◌≡◌, false};
 
+use samples_of_tests::{CALLERS, FILE_A, FILE_B};
 use super::bodies::B_SHOWN;
 use super::examples::{FIRST, LISTED, MOST};
 use super::policies::{WITHDRAWALS, policy_with};
@@ -9,9 +10,7 @@ use super::refusing::Refusing;
 use super::requests::{check_of, deposit_of, extract_of, list_of, two_of, withdraw_of};
 use super::wanted::count_wanted;
 use super::{Over, Want, examples_over, memory_of};
-use ags_rows::vectors::{FILE_A, FILE_B};
 use reg_desk::{Answer, Desk, Request};
-use reg_policy::vectors::CALLERS;
 use reg_policy::{Caller, Callers, Day, Name};
 use reg_store::Keep;
 use std::alloc::Global;

@@ -3,11 +3,11 @@
 
 pub mod again;
 
+use samples_of_tests::FILE_A;
 use super::examples::{MOST, UNTIL};
 use super::requests::{deposit_of, extract_of, list_of, two_of, withdraw_of};
 use super::wanted::{is_listing, is_receipt, is_withdrawn, name_of};
 use super::{Line, Over, Play, plays};
-use ags_rows::vectors::FILE_A;
 use reg_desk::{Answer, Desk, Request};
 use reg_policy::{Caller, Callers, Day, Name};
 use reg_store::Keep;

@@ -1,7 +1,7 @@
 //! The policy of the worked examples with lines more.
 
 use reg_policy::Policy;
-use reg_policy::vectors::POLICY;
+use samples_of_tests::POLICY;
 use std::alloc::{AllocError, Global};
 
 /// Lines that come in that policy after these.

@@ -7,15 +7,15 @@ ghost use Rattle.std.specs.Prelude.{◌≡◌, false, IsTrue};
 pub(super) mod migration;
 mod noted;
 
+use samples_of_tests::CALLERS;
 use super::bodies::{A, B};
 use super::examples::{FIRST, SECOND, UNTIL};
 use super::policies::{WITHDRAWALS, policy_with};
 use super::{Ask, Line, Step, Want, hold, holds};
-use ags_rows::vectors::MINI;
+use ags_rows::built_in::MINI;
 use migration::{looked_at_migrated, made_first, migrated};
 use noted::{Noted, copied, letter};
 use reg_desk::Desk;
-use reg_policy::vectors::CALLERS;
 use reg_policy::{Callers, Name, Policy};
 use reg_store::Keep;
 use reg_tables::{AdoptError, CreateError, SqlKeep};

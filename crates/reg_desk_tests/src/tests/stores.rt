@@ -2,11 +2,11 @@
 
 ghost use Rattle.std.specs.Prelude.{◌≡◌, ◌<◌, ◌≤◌, false, length, IsTrue, OnOk};
 
+use samples_of_tests::FILE_B;
 use super::examples::{MOST, UNTIL};
 use super::{Over, Play, plays};
 use ags_check::{Checked, check};
 use ags_rows::LIMIT;
-use ags_rows::vectors::FILE_B;
 use reg_policy::{Callers, Day, Name};
 use reg_store::{Keep, KeepError, KeptRow, is_equal};
 use std::alloc::{AllocError, Global};

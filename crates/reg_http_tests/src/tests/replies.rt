@@ -1,14 +1,14 @@
 //! The tables of requests and of heads, each reply compared whole.
 ghost use Rattle.std.specs.Prelude.{◌<◌, ◌≤◌};
 
+use samples_of_tests::{FILE_A, POLICY};
 use super::cases::{
     AT_A_DESK, AT_A_FULL_DESK, AT_A_WIDE_DESK, AT_A_WITHDRAWING_DESK, Altered, BODIES, HEADS,
     LONG_HEADS, RULE_AFTER, WIDE_HEADING, WITHDRAWALS,
 };
 use super::{Play, answers, desk_under, known_callers, plays};
-use ags_rows::vectors::{FILE_A, MINI};
+use ags_rows::built_in::MINI;
 use reg_desk::Desk;
-use reg_policy::vectors::POLICY;
 use reg_policy::{Callers, Day};
 use reg_store::PlainKeep;
 use std::alloc::{AllocError, Global};

@@ -5,8 +5,8 @@ ghost use Rattle.reg_policy.specs.declared.subject.Verb.TheVariants.{Deposit};
 ghost use Rattle.reg_policy.specs.Callers.{caller_of};
 ghost use Rattle.reg_policy.specs.Decision.{decision_of, request_question};
 
-use reg_policy::vectors::{CALLERS, POLICY};
 use reg_policy::{Callers, Day, Decision, Name, Policy, Subject, Verb};
+use samples_of_tests::{CALLERS, POLICY};
 use std::test::Fail;
 
 /// What a policy decides of a deposit in a project, which the holder of a token requests; none of nobody's token.

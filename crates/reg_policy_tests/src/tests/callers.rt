@@ -1,6 +1,6 @@
 //! Callers that are read, that are refused, and that are found.
 use super::joined;
-use reg_policy::{Callers, CallersError, vectors};
+use reg_policy::{Callers, CallersError};
 use std::alloc::Global;
 
 /// What comes before a token, and after it.
@@ -129,49 +129,49 @@ struct Token {
 
 const TOKENS: [Token; 9] = [
     Token {
-        callers: vectors::CALLERS,
+        callers: samples_of_tests::CALLERS,
         token: "t-delta",
         firm: "Delta",
         role: "contractor",
     },
     Token {
-        callers: vectors::CALLERS,
+        callers: samples_of_tests::CALLERS,
         token: "t-gamma",
         firm: "Gamma",
         role: "contractor",
     },
     Token {
-        callers: vectors::CALLERS,
+        callers: samples_of_tests::CALLERS,
         token: "t-foxtrot",
         firm: "Foxtrot",
         role: "contractor",
     },
     Token {
-        callers: vectors::CALLERS,
+        callers: samples_of_tests::CALLERS,
         token: "t-echo",
         firm: "Echo",
         role: "consultant",
     },
     Token {
-        callers: vectors::CALLERS,
+        callers: samples_of_tests::CALLERS,
         token: "",
         firm: "",
         role: "",
     },
     Token {
-        callers: vectors::CALLERS,
+        callers: samples_of_tests::CALLERS,
         token: "t-ech",
         firm: "",
         role: "",
     },
     Token {
-        callers: vectors::CALLERS,
+        callers: samples_of_tests::CALLERS,
         token: "t-echoo",
         firm: "",
         role: "",
     },
     Token {
-        callers: vectors::CALLERS,
+        callers: samples_of_tests::CALLERS,
         token: "T-ECHO",
         firm: "",
         role: "",

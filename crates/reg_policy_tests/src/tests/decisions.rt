@@ -1,6 +1,6 @@
 //! What policies decide of requests.
 use super::policies::{RULE, policy_of};
-use reg_policy::{Caller, Day, Decision, Name, NameError, Policy, Subject, Verb, vectors};
+use reg_policy::{Caller, Day, Decision, Name, NameError, Policy, Subject, Verb};
 use std::alloc::Global;
 
 /// One who asks in a project.
@@ -49,7 +49,7 @@ const OF_EMBARGO: &[&str] = &[RULE, "embargo = \"past\"\n"];
 
 const OF_ENTRY: &[&str] = &[RULE, "heading = \"LOCA_ID\"\nvalue = \"\"\n"];
 
-pub(super) const POLICY: &[&str] = &[vectors::POLICY];
+pub(super) const POLICY: &[&str] = &[samples_of_tests::POLICY];
 
 const REQUESTS: [Request; 28] = [
     Request {
@@ -316,7 +316,7 @@ fn is_extract_decided(alloc: Global, keys: &str, day: &str, want: Decision) -> b
         verb: Verb::Extract,
         want,
     };
-    let Some((above, below)) = vectors::POLICY.split_once(EXTRACTS) else {
+    let Some((above, below)) = samples_of_tests::POLICY.split_once(EXTRACTS) else {
         return false;
     };
     match policy_of(alloc, &[above, EXTRACTS, keys, below]) {

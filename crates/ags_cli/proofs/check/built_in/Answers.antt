@@ -1,5 +1,5 @@
 use Rattle.std.proofs.Common.{Err, ap, subst, ◌∙◌}
-use Rattle.ags_rows.specs.declared.vectors.TheConstants.{MINI}
+use Rattle.ags_rows.specs.declared.built_in.TheConstants.{MINI}
 use Rattle.ags_dict.specs.Reading.{ReadsDictionary}
 use Rattle.ags_cli.proofs.BuiltIn.{no_findings}
 use Rattle.ags_cli.proofs.check.built_in.Goals as goal

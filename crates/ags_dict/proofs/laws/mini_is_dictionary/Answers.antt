@@ -1,5 +1,5 @@
 use Rattle.std.proofs.Common.{refl, sym}
-use Rattle.ags_rows.specs.declared.vectors.TheConstants.{MINI}
+use Rattle.ags_rows.specs.declared.built_in.TheConstants.{MINI}
 use Rattle.ags_rows.specs.Mini.{mini_contents}
 use Rattle.ags_rows.proofs.Lemmas.{mini_groups, loose_groups}
 use Rattle.ags_dict.specs.Reading.{HasContents}

@@ -6,7 +6,7 @@ use super::{AGAIN, BOTH, Stage, UNWITHDRAWN, Visit, WITHDRAWN, visited_tables};
 use crate::tests::bodies::{A, B};
 use crate::tests::examples::UNTIL;
 use crate::tests::{Ask, Step, Want};
-use ags_rows::vectors::MINI;
+use ags_rows::built_in::MINI;
 use reg_store::NoProgress;
 use reg_tables::{AdoptError, MigrateError, SqlKeep};
 use sqlite::{Alter, Connection};

@@ -1,4 +1,4 @@
-//! A policy and callers, as texts, that worked examples use.
+//! A policy, and its callers.
 
 /// Contractors deposit, all but Gamma. Anyone may check, list and extract. Of another firm's rows those
 /// under a running embargo are hidden, and of the others preliminary locations and the samples `S9`.
