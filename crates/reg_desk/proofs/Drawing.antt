@@ -24,15 +24,15 @@ use Rattle.reg_store.specs.declared.keep.KeepError.TheVariants as errors
 use Rattle.reg_store.specs.declared.keep.KeptHead.{KeptHead}
 use Rattle.reg_desk.specs.Asked.{Asked, extract}
 use Rattle.reg_desk.specs.Laws.{IsModelAnswer}
-use Rattle.reg_desk.specs.declared.answer.Listed.{Listed}
 use Rattle.reg_desk.specs.declared.answer.Answer.{Answer}
 use Rattle.reg_desk.specs.declared.answer.Answer.TheVariants.{Text, Unknown}
 use Rattle.reg_desk.specs.Shown.{Look, IsProjectShown}
+use Rattle.reg_desk.specs.Extract.{IsExtractText}
 use Rattle.ags_check.specs.Findings.{IsCleanFile}
 use Rattle.reg_desk.specs.Machine.{Terms, decided, look_at, IsSeen, IsTextOf, IsDrawnFrom, held, IsReply}
 use Rattle.ags_check.specs.Findings.{file_of}
-use Rattle.reg_desk.specs.View.{look_on, IsExtractOf, Sees}
-use Rattle.reg_desk.specs.Serving.{AsksStore, IsLineFor, text_answer, terms_at, OnlyReads, Serves, answer_of}
+use Rattle.reg_desk.specs.View.{look_on, Sees}
+use Rattle.reg_desk.specs.Serving.{AsksStore, IsSeenHead, terms_at, OnlyReads, Serves, answer_of}
 use Rattle.reg_desk.proofs.Replies.{one_file}
 use Rattle.reg_desk.proofs.Bodies.{where_true}
 use Rattle.reg_desk.proofs.Serves.{asks_of, refused_serves, replies_serves, permitted_reply, permit_stands}
@@ -116,40 +116,6 @@ headed keep old mid number head within fit first read s =
 
 -- ---- what is drawn
 
-drawn_of : (terms : Terms) (caller : Caller) (groups : List (List ℕ)) (day : ℤ) (project : List ℕ) (d : Deposit)
-    (file : CheckedFile) (text : Option (List ℕ))
-    → IsFileOf terms.dictionary d.sent file → d.withdrawn ≡ false → bytes_eq d.sent.project project ≡ true
-    → IsExtractOf (look_at terms caller day d.sent) (file_of file) groups text
-    → IsDrawnFrom terms caller project groups day (Some d) (text_answer text)
-drawn_of terms caller groups day project d file (Some text) is unmarked same drawn =
-    let clean = clean_of terms.dictionary d.sent file is in
-    where_true (bytes_eq d.sent.project project) _ _ same
-    (inl ((unmarked, (file_of file, clean, drawn.0)), (text, (file_of file, clean, drawn.1), refl)))
-drawn_of terms caller groups day project d file None is unmarked same hidden =
-    let clean = clean_of terms.dictionary d.sent file is in
-    let look = look_at terms caller day d.sent in
-    where_true (bytes_eq d.sent.project project) _ _ same
-    (inr (
-      (λ seen. hidden (subst (IsProjectShown look)
-          (one_file terms.dictionary d.sent.bytes seen.1.0 (file_of file) seen.1.1 clean) seen.1.2)),
-      refl,
-    ))
-
--- by its head, and by its files
-pub head_drawn : (terms : Terms) (state : List Deposit) (caller : Caller) (project : List ℕ) (number : ℕ)
-    (groups : List (List ℕ)) (day : ℤ) (head : KeptHead) (text : Option (List ℕ))
-    → IsHeaded terms.dictionary state number head → head.withdrawn ≡ false → bytes_eq head.project project ≡ true
-    → OfDeposit terms.dictionary (sents state) number
-    (λ file. IsExtractOf (look_on terms.policy caller head day) (file_of file) groups text)
-    → ∥ IsDrawnFrom terms caller project groups day (held number state) (text_answer text) ∥₁
-head_drawn terms state caller project number groups day head text h unmarked same drawn =
-    ∥∥₁_map h.fit (λ (f : (file : CheckedFile) × IsFileOf terms.dictionary h.kept.sent file).
-    let is = subst (λ (look : Look). IsExtractOf look (file_of f.0) groups text)
-    (look_same terms caller day h.kept head h.of_head) (drawn h.kept.sent f.0 h.place f.1) in
-    subst (λ (o : Option Deposit). IsDrawnFrom terms caller project groups day o (text_answer text)) (sym h.holds)
-    (drawn_of terms caller groups day project h.kept f.0 text f.1 (sym h.of_head.withdrawn ∙ unmarked)
-    (ap (λ (p : List ℕ). bytes_eq p project) (sym h.of_head.project) ∙ same) is))
-
 -- no deposit has the number
 pub unheld_drawn : (terms : Terms) (state : List Deposit) (caller : Caller) (project : List ℕ) (number : ℕ)
     (groups : List (List ℕ)) (day : ℤ) → (number ≡ 0) ⊎ (length state < number)
@@ -158,22 +124,29 @@ unheld_drawn terms state caller project number groups day outside =
     subst (λ (o : Option Deposit). IsDrawnFrom terms caller project groups day o Unknown)
     (sym (none_held state number outside)) refl
 
-unseen : (t : Bool) (Seen Then Else : Type 0) → (t ≡ true → Seen → ⊥) → Else
-    → MatchBool t ((Seen × Then) ⊎ ((Seen → ⊥) × Else)) Else
-unseen true Seen Then Else never is = inr (never refl, is)
-unseen false Seen Then Else never is = is
+-- what follows where it is seen, and where not
+where_seen : (t : Bool) (Seen A B C D : Type 0) → (A → C) → (B → D)
+    → MatchBool t ((Seen × A) ⊎ ((Seen → ⊥) × B)) B → MatchBool t ((Seen × C) ⊎ ((Seen → ⊥) × D)) D
+where_seen true Seen A B C D f g (inl h) = inl (h.0, f h.1)
+where_seen true Seen A B C D f g (inr h) = inr (h.0, g h.1)
+where_seen false Seen A B C D f g h = g h
 
--- it is withdrawn, or of another project
-pub other_drawn : (terms : Terms) (state : List Deposit) (caller : Caller) (project : List ℕ) (number : ℕ)
-    (groups : List (List ℕ)) (day : ℤ) (d : Deposit) (head : KeptHead) → held number state ≡ Some d → IsHeadOf d head
-    → (head.withdrawn ≡ true) ⊎ (bytes_eq head.project project ≡ false)
-    → IsDrawnFrom terms caller project groups day (held number state) Unknown
-other_drawn terms state caller project number groups day d head holds of_head other =
-    subst (λ (o : Option Deposit). IsDrawnFrom terms caller project groups day o Unknown) (sym holds)
-    (unseen (bytes_eq d.sent.project project) _ _ _ (λ same seen. elim other [
-      | inl marked ↦ true≢false (sym marked ∙ of_head.withdrawn ∙ seen.0)
-      | inr another ↦ true≢false (sym same ∙ ap (λ (p : List ℕ). bytes_eq p project) (sym of_head.project) ∙ another)
-    ]) refl)
+unseen_drawn : (terms : Terms) (caller : Caller) (project : List ℕ) (groups : List (List ℕ)) (day : ℤ) (d : Deposit)
+    → IsSeenHead terms caller project day d None → IsDrawnFrom terms caller project groups day (Some d) Unknown
+unseen_drawn terms caller project groups day d seen =
+    where_seen (bytes_eq d.sent.project project) _ _ _ _ _ (λ h. let none = h.1 in cc) (λ e. refl) seen
+
+seen_drawn : (terms : Terms) (caller : Caller) (project : List ℕ) (groups : List (List ℕ)) (day : ℤ) (d : Deposit)
+    (head : KeptHead) (file : CheckedFile) (text : List ℕ) → IsFileOf terms.dictionary d.sent file
+    → IsExtractText (look_on terms.policy caller head day) (file_of file) groups text
+    → IsSeenHead terms caller project day d (Some head) → IsDrawnFrom terms caller project groups day (Some d) (Text text)
+seen_drawn terms caller project groups day d head file text is drawn seen =
+    where_seen (bytes_eq d.sent.project project) _ _ _ _ _
+    (λ (h : (other : KeptHead) × (Some head ≡ Some other) × IsHeadOf d other).
+    let same : h.0 ≡ head = (let e = h.1 in cc) in
+    let look = look_same terms caller day d head (subst (IsHeadOf d) same h.2) in
+    (text, (file_of file, clean_of terms.dictionary d.sent file is, subst (λ (l : Look). IsExtractText l (file_of file) groups text) look drawn), refl))
+    (λ e. cc) seen
 
 -- ---- the answers to an extract
 
@@ -216,6 +189,28 @@ module _ {K : Type 0} (keep : Ghosts K) (rules : List Rule) (caller : Caller) (p
   abbrev Drawn : Answer → Type 0
   Drawn = IsDrawnFrom terms caller project groups day (held number (keep.deposits old))
 
+  -- the head that is read of a deposit of the number, or none
+  abbrev pub IsReadHead : Option KeptHead → Type 0
+  IsReadHead head = (d : Deposit) → held number (keep.deposits old) ≡ Some d → ∥ IsSeenHead terms caller project day d head ∥₁
+
+  pub none_drawn : (0 < number) × (number ≤ length (keep.deposits old)) → IsReadHead None → ∥ Drawn Unknown ∥₁
+  none_drawn within seen =
+      let d = held_at (keep.deposits old) number within.0 within.1 in
+      subst (λ (o : Option Deposit). ∥ IsDrawnFrom terms caller project groups day o Unknown ∥₁) (sym d.2)
+      (∥∥₁_map (seen d.0 d.2) (unseen_drawn terms caller project groups day d.0))
+
+  pub head_drawn : (head : KeptHead) (text : List ℕ) → (0 < number) × (number ≤ length (keep.deposits old)) → All (IsFit (keep.dictionary old)) (sents (keep.deposits old)) → IsReadHead (Some head)
+      → OfDeposit (keep.dictionary old) (sents (keep.deposits old)) number (λ file. IsExtractText (look_on rules caller head day) (file_of file) groups text)
+      → ∥ Drawn (Text text) ∥₁
+  head_drawn head text within fit seen drawn =
+      let state = keep.deposits old in
+      let d = held_at state number within.0 within.1 in
+      let sent = sent_at state (number - 1) d.0 d.1 in
+      subst (λ (o : Option Deposit). ∥ IsDrawnFrom terms caller project groups day o (Text text) ∥₁) (sym d.2)
+      (∥∥₁_elim (seen d.0 d.2) (Prim.hlevel props) (λ (is : IsSeenHead terms caller project day d.0 (Some head)).
+      ∥∥₁_map (fit_at (keep.dictionary old) (sents state) (number - 1) d.0.sent fit sent) (λ (f : (file : CheckedFile) × IsFileOf (keep.dictionary old) d.0.sent file).
+      seen_drawn terms caller project groups day d.0 head f.0 text f.1 (drawn d.0.sent f.0 sent f.1) is)))
+
   extract_asks : (k : ℕ) → ruling ≡ Permit k → AsksStore (IsReply terms (keep.deposits old) request)
   extract_asks k permit =
       asks_of IsOne (IsReply terms (keep.deposits old) request)
@@ -252,52 +247,54 @@ kept_lives keep old number (Err errors.Store) within fit broken =
     (Prim.hlevel props)
     (λ (f : (file : CheckedFile) × IsFileOf (keep.dictionary old) d.0.sent file). broken refl d.0.sent f.0 sent f.1))
 
--- whether its row of PROJ is shown, where that was read after its head
-module _ {K : Type 0} (keep : Ghosts K) (rules : List Rule) (old mid : K) (caller : Caller) (number : ℕ) (day : ℤ) (head : KeptHead) (look : Look) (seen : Bool)
+-- it is withdrawn, or of another project
+pub other_unseen : (terms : Terms) (caller : Caller) (project : List ℕ) (day : ℤ) (d : Deposit) (head : KeptHead) → IsHeadOf d head
+    → (head.withdrawn ≡ true) ⊎ (bytes_eq head.project project ≡ false) → IsSeenHead terms caller project day d None
+other_unseen terms caller project day d head of_head other =
+    unseen (bytes_eq d.sent.project project) _ _ _ (λ same seen. elim other [
+      | inl marked ↦ true≢false (sym marked ∙ of_head.withdrawn ∙ seen.0)
+      | inr another ↦ true≢false (sym same ∙ ap (λ (p : List ℕ). bytes_eq p project) (sym of_head.project) ∙ another)
+    ]) refl
+  where
+    unseen : (t : Bool) (Seen Then Else : Type 0) → (t ≡ true → Seen → ⊥) → Else → MatchBool t ((Seen × Then) ⊎ ((Seen → ⊥) × Else)) Else
+    unseen true Seen Then Else never is = inr (never refl, is)
+    unseen false Seen Then Else never is = is
+
+-- the project's, and not withdrawn: whether its row of PROJ is shown, where that was read after its head
+module _ {K : Type 0} (keep : Ghosts K) (rules : List Rule) (old mid : K) (caller : Caller) (project : List ℕ) (number : ℕ) (day : ℤ) (head : KeptHead) (look : Look) (seen : Bool)
     (reads : OnlyReads keep old mid false) (s : keep.is_sound mid) (h : IsHeaded (keep.dictionary old) (keep.deposits old) number head)
-    (same : look ≡ look_at (terms_at keep rules old) caller day h.kept.sent)
-    (sees : OfDeposit (keep.dictionary mid) (sents (keep.deposits mid)) number (λ file. Sees look file seen)) where
+    (same : look ≡ look_on rules caller head day)
+    (sees : OfDeposit (keep.dictionary mid) (sents (keep.deposits mid)) number (λ file. Sees look file seen))
+    (unmarked : head.withdrawn ≡ false) (own : bytes_eq head.project project ≡ true) where
   abbrev its_look : Look
   its_look = look_at (terms_at keep rules old) caller day h.kept.sent
 
+  abbrev IsHead : Option KeptHead → Type 0
+  IsHead = IsSeenHead (terms_at keep rules old) caller project day h.kept
+
+  abbrev Files : Type 0
+  Files = (file : CheckedFile) × IsFileOf (keep.dictionary old) h.kept.sent file
+
   seen_file : (file : CheckedFile) → IsFileOf (keep.dictionary old) h.kept.sent file → (seen ≡ true) ↔ IsProjectShown its_look (file_of file)
   seen_file file is =
-      subst (λ (l : Look). (seen ≡ true) ↔ IsProjectShown l (file_of file)) same
+      subst (λ (l : Look). (seen ≡ true) ↔ IsProjectShown l (file_of file)) (same ∙ look_same (terms_at keep rules old) caller day h.kept head h.of_head)
       (sees h.kept.sent file (ap (λ (l : List Deposit). slice_get (sents l) (number - 1)) (reads.same s refl) ∙ h.place)
       (subst (λ (e : Entries). IsFileOf e h.kept.sent file) (sym reads.same_dictionary) is))
 
-  pub seen_listed : head.withdrawn ≡ false → seen ≡ true → (d : Deposit) → held number (keep.deposits old) ≡ Some d
-      → ∥ IsLineFor (terms_at keep rules old) caller day number d (Some (record { number = number; firm = head.firm; embargo = head.embargo })) ∥₁
-  seen_listed unmarked is d holds =
-      let line : List ℕ → ℤ → Listed = λ firm until. record { number = number; firm = firm; embargo = until } in
-      subst (λ (k : Deposit). ∥ IsLineFor (terms_at keep rules old) caller day number k (Some (line head.firm head.embargo)) ∥₁)
-      (same_kept (held number (keep.deposits old)) h.kept d h.holds holds)
-      (∥∥₁_map h.fit (λ (f : (file : CheckedFile) × IsFileOf (keep.dictionary old) h.kept.sent file). (
-        (
-          sym h.of_head.withdrawn ∙ unmarked,
-          (file_of f.0, clean_of (keep.dictionary old) h.kept.sent f.0 f.1, (seen_file f.0 f.1).0 is),
-        ),
-        ap (λ (firm : List ℕ). line firm head.embargo) h.of_head.firm ∙ ap (line h.kept.sent.firm) h.of_head.embargo,
+  own_kept : bytes_eq h.kept.sent.project project ≡ true
+  own_kept = ap (λ (p : List ℕ). bytes_eq p project) (sym h.of_head.project) ∙ own
+
+  pub shown_seen : seen ≡ true → ∥ IsHead (Some head) ∥₁
+  shown_seen is = ∥∥₁_map h.fit (λ (f : Files).
+      where_true (bytes_eq h.kept.sent.project project) _ _ own_kept
+      (inl ((sym h.of_head.withdrawn ∙ unmarked, (file_of f.0, clean_of (keep.dictionary old) h.kept.sent f.0 f.1, (seen_file f.0 f.1).0 is)), (head, refl, h.of_head))))
+
+  pub hidden_unseen : seen ≡ false → ∥ IsHead None ∥₁
+  hidden_unseen is = ∥∥₁_map h.fit (λ (f : Files).
+      where_true (bytes_eq h.kept.sent.project project) _ _ own_kept
+      (inr (
+        (λ (was : IsSeen (terms_at keep rules old) caller day h.kept).
+            let one = one_file (keep.dictionary old) h.kept.sent.bytes was.1.0 (file_of f.0) was.1.1 (clean_of (keep.dictionary old) h.kept.sent f.0 f.1) in
+            true≢false (sym ((seen_file f.0 f.1).1 (subst (IsProjectShown its_look) one was.1.2)) ∙ is)),
+        refl,
       )))
-
-  pub seen_unlisted : seen ≡ false → (d : Deposit) → held number (keep.deposits old) ≡ Some d
-      → ∥ IsLineFor (terms_at keep rules old) caller day number d None ∥₁
-  seen_unlisted is d holds =
-      subst (λ (k : Deposit). ∥ IsLineFor (terms_at keep rules old) caller day number k None ∥₁)
-      (same_kept (held number (keep.deposits old)) h.kept d h.holds holds)
-      (∥∥₁_map h.fit (λ (f : (file : CheckedFile) × IsFileOf (keep.dictionary old) h.kept.sent file)
-      (was : IsSeen (terms_at keep rules old) caller day h.kept).
-      let clean = clean_of (keep.dictionary old) h.kept.sent f.0 f.1 in
-      let one = one_file (keep.dictionary old) h.kept.sent.bytes was.1.0 (file_of f.0) was.1.1 clean in
-      true≢false (sym ((seen_file f.0 f.1).1 (subst (IsProjectShown its_look) one was.1.2)) ∙ is)))
-
--- it is withdrawn
-pub marked_unlisted : {K : Type 0} (keep : Ghosts K) (rules : List Rule) (old : K) (caller : Caller) (number : ℕ)
-    (day : ℤ) (head : KeptHead)
-    → IsHeaded (keep.dictionary old) (keep.deposits old) number head → head.withdrawn ≡ true
-    → (d : Deposit) → held number (keep.deposits old) ≡ Some d
-    → ∥ IsLineFor (terms_at keep rules old) caller day number d None ∥₁
-marked_unlisted keep rules old caller number day head h marked d holds =
-    subst (λ (k : Deposit). ∥ IsLineFor (terms_at keep rules old) caller day number k None ∥₁)
-    (same_kept (held number (keep.deposits old)) h.kept d h.holds holds)
-    ∣ (λ seen. true≢false (sym marked ∙ h.of_head.withdrawn ∙ seen.0)) ∣₁

@@ -12,55 +12,63 @@ use Rattle.reg_policy.specs.declared.subject.Decision.TheVariants.{Permit}
 use Rattle.reg_policy.specs.declared.subject.Verb.TheVariants as verbs
 use Rattle.reg_store.specs.Sent.{numbers_from}
 use Rattle.reg_store.specs.Deposit.{Deposit, sents}
-use Rattle.reg_store.specs.Keep.{is_store}
+use Rattle.reg_store.specs.Keep.{IsHeadOf, is_store}
 use Rattle.reg_store.specs.declared.keep.Keep.{Ghosts}
 use Rattle.reg_store.specs.declared.keep.KeepError.{KeepError}
 use Rattle.reg_store.specs.declared.keep.KeepError.TheVariants as errors
+use Rattle.reg_store.specs.declared.keep.KeptHead.{KeptHead}
 use Rattle.reg_desk.specs.Asked.{Asked, listing}
 use Rattle.reg_desk.specs.declared.answer.Listed.{Listed}
 use Rattle.reg_desk.specs.declared.answer.Answer.{Answer}
 use Rattle.reg_desk.specs.declared.answer.Answer.TheVariants.{Listing}
 use Rattle.reg_desk.specs.Machine.{Terms, decided, IsSeen, listed_of, IsListing, held, IsReply}
-use Rattle.reg_desk.specs.Serving.{AsksStore, IsLineFor, terms_at, OnlyReads, Serves, answer_of}
+use Rattle.reg_desk.specs.Serving.{AsksStore, IsSeenHead, terms_at, OnlyReads, Serves, answer_of}
 use Rattle.reg_desk.proofs.Drawing.{held_at, same_kept}
 use Rattle.reg_desk.proofs.Serves.{asks_of, refused_serves, replies_serves, permitted_reply, permit_stands}
 
 -- ---- lines for numbers
 
-abbrev pub with_line : Option Listed → List Listed → List Listed
-with_line None more = more
-with_line (Some line) more = line ∷ more
+-- the line of a deposit in a listing, by its number and its head
+abbrev pub line_of : ℕ → KeptHead → Listed
+line_of n head = record { number = n; firm = head.firm; embargo = head.embargo }
+
+abbrev with_line : ℕ → Option KeptHead → List Listed → List Listed
+with_line n None more = more
+with_line n (Some head) more = line_of n head ∷ more
 
 -- the lines of the deposits that have these numbers
-abbrev pub AreLines : Terms → Caller → ℤ → (ℕ → Option Deposit) → List ℕ → List Listed → Type 0
-AreLines terms caller day at [] lines = lines ≡ []
-AreLines terms caller day at (n ∷ numbers) lines =
-    (kept : Deposit) × (line : Option Listed) × (more : List Listed) ×
-    (at n ≡ Some kept) × IsLineFor terms caller day n kept line ×
-    (lines ≡ with_line line more) × AreLines terms caller day at numbers more
+abbrev pub AreLines : Terms → Caller → List ℕ → ℤ → (ℕ → Option Deposit) → List ℕ → List Listed → Type 0
+AreLines terms caller project day at [] lines = lines ≡ []
+AreLines terms caller project day at (n ∷ numbers) lines =
+    (kept : Deposit) × (head : Option KeptHead) × (more : List Listed) ×
+    (at n ≡ Some kept) × IsSeenHead terms caller project day kept head ×
+    (lines ≡ with_line n head more) × AreLines terms caller project day at numbers more
 
 -- the lines so far, where these numbers are left
-abbrev pub SoFar : Terms → Caller → ℤ → (ℕ → Option Deposit) → List ℕ → List ℕ → List Listed → Type 0
-SoFar terms caller day at all numbers lines = (rest : List Listed) → AreLines terms caller day at numbers rest → AreLines terms caller day at all (lines ++ rest)
+abbrev pub SoFar : Terms → Caller → List ℕ → ℤ → (ℕ → Option Deposit) → List ℕ → List ℕ → List Listed → Type 0
+SoFar terms caller project day at all numbers lines =
+    (rest : List Listed) → AreLines terms caller project day at numbers rest → AreLines terms caller project day at all (lines ++ rest)
 
-pub lines_begin : (terms : Terms) (caller : Caller) (day : ℤ) (at : ℕ → Option Deposit) (all : List ℕ)
-    → SoFar terms caller day at all all []
-lines_begin terms caller day at all = λ rest h. h
+pub lines_begin : (terms : Terms) (caller : Caller) (project : List ℕ) (day : ℤ) (at : ℕ → Option Deposit) (all : List ℕ)
+    → SoFar terms caller project day at all all []
+lines_begin terms caller project day at all = λ rest h. h
 
-abbrev pub put_line : List Listed → Option Listed → List Listed
-put_line lines None = lines
-put_line lines (Some line) = lines ++ line ∷ []
+abbrev pub put_line : List Listed → ℕ → Option KeptHead → List Listed
+put_line lines n None = lines
+put_line lines n (Some head) = lines ++ line_of n head ∷ []
 
-lines_more : (terms : Terms) (caller : Caller) (day : ℤ) (at : ℕ → Option Deposit) (all : List ℕ) (n : ℕ)
-    (numbers : List ℕ) (lines : List Listed) (kept : Deposit) (line : Option Listed)
-    → SoFar terms caller day at all (n ∷ numbers) lines → at n ≡ Some kept → IsLineFor terms caller day n kept line → SoFar terms caller day at all numbers (put_line lines line)
-lines_more terms caller day at all n numbers lines kept None so_far holds listed = λ rest h. so_far rest (kept, None, rest, holds, listed, refl, h)
-lines_more terms caller day at all n numbers lines kept (Some line) so_far holds listed = λ rest h.
-    subst (AreLines terms caller day at all) (sym (append_assoc lines (line ∷ []) rest)) (so_far (line ∷ rest) (kept, Some line, rest, holds, listed, refl, h))
+lines_more : (terms : Terms) (caller : Caller) (project : List ℕ) (day : ℤ) (at : ℕ → Option Deposit) (all : List ℕ) (n : ℕ)
+    (numbers : List ℕ) (lines : List Listed) (kept : Deposit) (head : Option KeptHead)
+    → SoFar terms caller project day at all (n ∷ numbers) lines → at n ≡ Some kept → IsSeenHead terms caller project day kept head
+    → SoFar terms caller project day at all numbers (put_line lines n head)
+lines_more terms caller project day at all n numbers lines kept None so_far holds seen = λ rest h. so_far rest (kept, None, rest, holds, seen, refl, h)
+lines_more terms caller project day at all n numbers lines kept (Some head) so_far holds seen = λ rest h.
+    let line = line_of n head in
+    subst (AreLines terms caller project day at all) (sym (append_assoc lines (line ∷ []) rest)) (so_far (line ∷ rest) (kept, Some head, rest, holds, seen, refl, h))
 
-pub lines_end : (terms : Terms) (caller : Caller) (day : ℤ) (at : ℕ → Option Deposit) (all : List ℕ)
-    (lines : List Listed) → SoFar terms caller day at all [] lines → AreLines terms caller day at all lines
-lines_end terms caller day at all lines so_far = subst (AreLines terms caller day at all) (append-nil lines) (so_far [] refl)
+pub lines_end : (terms : Terms) (caller : Caller) (project : List ℕ) (day : ℤ) (at : ℕ → Option Deposit) (all : List ℕ)
+    (lines : List Listed) → SoFar terms caller project day at all [] lines → AreLines terms caller project day at all lines
+lines_end terms caller project day at all lines so_far = subst (AreLines terms caller project day at all) (append-nil lines) (so_far [] refl)
 
 -- ---- the project's numbers
 
@@ -76,32 +84,38 @@ module _ (terms : Terms) (caller : Caller) (project : List ℕ) (day : ℤ) (n :
   abbrev Here : Type 0
   Here = (IsSeen terms caller day d × ((l : List Listed) × (lines ≡ listed_of n d.sent ∷ l) × More l)) ⊎ ((IsSeen terms caller day d → ⊥) × More lines)
 
-  listed_then : (more : List Listed) (line : Option Listed) → IsLineFor terms caller day n d line → lines ≡ with_line line more → More more → Here
-  listed_then more None listed is rest = inr (listed, subst More (sym is) rest)
-  listed_then more (Some line) listed is rest = inl (listed.0, (more, is ∙ ap (λ (l : Listed). l ∷ more) listed.1, rest))
+  listed_then : (more : List Listed) (head : Option KeptHead) → IsSeenHead terms caller project day d head → bytes_eq d.sent.project project ≡ true
+      → lines ≡ with_line n head more → More more → Here
+  listed_then more head seen own is rest =
+      elim (subst (λ (t : Bool). MatchBool t ((IsSeen terms caller day d × ((h : KeptHead) × (head ≡ Some h) × IsHeadOf d h)) ⊎ ((IsSeen terms caller day d → ⊥) × (head ≡ None))) (head ≡ None)) own seen) [
+        | inl h ↦
+            let line : line_of n h.1.0 ≡ listed_of n d.sent = (let of_head = h.1.2 in cc) in
+            inl (h.0, (more, is ∙ ap (λ (o : Option KeptHead). with_line n o more) h.1.1 ∙ ap (λ (l : Listed). l ∷ more) line, rest))
+        | inr h ↦ inr (h.0, subst More (sym (is ∙ ap (λ (o : Option KeptHead). with_line n o more) h.1)) rest)
+      ]
 
-  listing_step : (at : ℕ → Option Deposit) (numbers : List ℕ) (t : Bool) → at n ≡ Some d → ((l : List Listed) → AreLines terms caller day at numbers l → More l)
-      → AreLines terms caller day at (cond t (n ∷ numbers) numbers) lines → MatchBool t Here (More lines)
-  listing_step at numbers true holds rest h =
-      let listed = subst (λ (k : Deposit). IsLineFor terms caller day n k h.1) (same_kept (at n) h.0 d h.3 holds) h.4 in
-      listed_then h.2 h.1 listed h.5 (rest h.2 h.6)
-  listing_step at numbers false holds rest h = rest lines h
+  listing_step : (at : ℕ → Option Deposit) (numbers : List ℕ) (t : Bool) → bytes_eq d.sent.project project ≡ t → at n ≡ Some d → ((l : List Listed) → AreLines terms caller project day at numbers l → More l)
+      → AreLines terms caller project day at (cond t (n ∷ numbers) numbers) lines → MatchBool t Here (More lines)
+  listing_step at numbers true own holds rest h =
+      let seen = subst (λ (k : Deposit). IsSeenHead terms caller project day k h.1) (same_kept (at n) h.0 d h.3 holds) h.4 in
+      listed_then h.2 h.1 seen own h.5 (rest h.2 h.6)
+  listing_step at numbers false own holds rest h = rest lines h
 
 lines_listing : (terms : Terms) (caller : Caller) (project : List ℕ) (day : ℤ) (at : ℕ → Option Deposit) (n : ℕ)
     (state : List Deposit) → Stands at n state
-    → (lines : List Listed) → AreLines terms caller day at (numbers_from n project (sents state)) lines
+    → (lines : List Listed) → AreLines terms caller project day at (numbers_from n project (sents state)) lines
     → IsListing terms caller project day n state lines
 lines_listing terms caller project day at n [] stands lines h = h
 lines_listing terms caller project day at n (d ∷ state) stands lines h =
     listing_step terms caller project day n d state lines at (numbers_from (n + 1) project (sents state))
-    (bytes_eq d.sent.project project) (stands 0 n d refl (omega arith))
+    (bytes_eq d.sent.project project) refl (stands 0 n d refl (omega arith))
     (lines_listing terms caller project day at (n + 1) state (λ i k e is same. stands (suc i) k e is (omega (arith, same)))) h
 
 held_stands : (state : List Deposit) → Stands (λ k. held k state) 1 state
 held_stands state = λ i k d is same. let e : k ≡ suc i = omega (arith, same) in subst (λ (m : ℕ). held m state ≡ Some d) (sym e) is
 
 pub listing_of : (terms : Terms) (caller : Caller) (project : List ℕ) (day : ℤ) (state : List Deposit)
-    (lines : List Listed) → AreLines terms caller day (λ k. held k state) (numbers_from 1 project (sents state)) lines
+    (lines : List Listed) → AreLines terms caller project day (λ k. held k state) (numbers_from 1 project (sents state)) lines
     → IsListing terms caller project day 1 state lines
 listing_of terms caller project day state lines h = lines_listing terms caller project day (λ k. held k state) 1 state (held_stands state) lines h
 
@@ -130,28 +144,29 @@ number_within project state numbers i same lt =
 -- ---- the loop
 
 -- one more number, whose deposit is seen or not
-pub number_step : (terms : Terms) (caller : Caller) (day : ℤ) (state : List Deposit) (all : List ℕ) (i : ℕ)
-    (lines : List Listed) (line : Option Listed) → i < length all
+pub number_step : (terms : Terms) (caller : Caller) (project : List ℕ) (day : ℤ) (state : List Deposit) (all : List ℕ) (i : ℕ)
+    (lines : List Listed) (head : Option KeptHead) → i < length all
     → (0 < get_or all i 0) × (get_or all i 0 ≤ length state)
-    → ((d : Deposit) → held (get_or all i 0) state ≡ Some d → ∥ IsLineFor terms caller day (get_or all i 0) d line ∥₁)
-    → ∥ SoFar terms caller day (λ k. held k state) all (drop i all) lines ∥₁ → ∥ SoFar terms caller day (λ k. held k state) all (drop (i + 1) all) (put_line lines line) ∥₁
-number_step terms caller day state all i lines line lt within listed so_far =
+    → ((d : Deposit) → held (get_or all i 0) state ≡ Some d → ∥ IsSeenHead terms caller project day d head ∥₁)
+    → ∥ SoFar terms caller project day (λ k. held k state) all (drop i all) lines ∥₁
+    → ∥ SoFar terms caller project day (λ k. held k state) all (drop (i + 1) all) (put_line lines (get_or all i 0) head) ∥₁
+number_step terms caller project day state all i lines head lt within seen so_far =
     let at = λ (k : ℕ). held k state in
     let n = get_or all i 0 in
     let d = held_at state n within.0 within.1 in
-    ∥∥₁_elim so_far (Prim.hlevel props) (λ (f : SoFar terms caller day at all (drop i all) lines).
-    ∥∥₁_map (listed d.0 d.2) (λ (is : IsLineFor terms caller day n d.0 line).
-    lines_more terms caller day at all n (drop (i + 1) all) lines d.0 line
-    (subst (λ (l : List ℕ). SoFar terms caller day at all l lines) (drop_more all i 0 lt) f) d.2 is))
+    ∥∥₁_elim so_far (Prim.hlevel props) (λ (f : SoFar terms caller project day at all (drop i all) lines).
+    ∥∥₁_map (seen d.0 d.2) (λ (is : IsSeenHead terms caller project day d.0 head).
+    lines_more terms caller project day at all n (drop (i + 1) all) lines d.0 head
+    (subst (λ (l : List ℕ). SoFar terms caller project day at all l lines) (drop_more all i 0 lt) f) d.2 is))
 
 pub lines_whole : (terms : Terms) (caller : Caller) (project : List ℕ) (day : ℤ) (state : List Deposit) (all : List ℕ)
     (i : ℕ) (lines : List Listed) → length all ≤ i → all ≡ numbers_from 1 project (sents state)
-    → ∥ SoFar terms caller day (λ k. held k state) all (drop i all) lines ∥₁ → ∥ IsListing terms caller project day 1 state lines ∥₁
+    → ∥ SoFar terms caller project day (λ k. held k state) all (drop i all) lines ∥₁ → ∥ IsListing terms caller project day 1 state lines ∥₁
 lines_whole terms caller project day state all i lines le same so_far =
-    ∥∥₁_map so_far (λ (f : SoFar terms caller day (λ k. held k state) all (drop i all) lines).
+    ∥∥₁_map so_far (λ (f : SoFar terms caller project day (λ k. held k state) all (drop i all) lines).
     listing_of terms caller project day state lines
-    (subst (λ (numbers : List ℕ). AreLines terms caller day (λ k. held k state) numbers lines) same
-    (lines_end terms caller day (λ k. held k state) all lines (subst (λ (left : List ℕ). SoFar terms caller day (λ k. held k state) all left lines) (drop_all i all le) f))))
+    (subst (λ (numbers : List ℕ). AreLines terms caller project day (λ k. held k state) numbers lines) same
+    (lines_end terms caller project day (λ k. held k state) all lines (subst (λ (left : List ℕ). SoFar terms caller project day (λ k. held k state) all left lines) (drop_all i all le) f))))
 
 pub terms_same : {K : Type 0} (keep : Ghosts K) (rules : List Rule) (old new : K) (failed : Bool) → OnlyReads keep old new failed → terms_at keep rules new ≡ terms_at keep rules old
 terms_same keep rules old new failed reads = cc

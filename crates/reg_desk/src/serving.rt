@@ -10,6 +10,7 @@ mod body;
 mod deposit;
 mod drawing;
 mod listing;
+mod seen;
 mod withdrawal;
 
 use crate::answer::Answer;

@@ -7,11 +7,11 @@ ghost use Rattle.reg_desk.specs.Asked.{extract as asks_extract, names_in};
 ghost use Rattle.reg_desk.specs.Extract.{IsExtractText, IsOfRows};
 ghost use Rattle.reg_desk.specs.Machine.{IsDrawnFrom, held};
 ghost use Rattle.reg_desk.specs.Serving.{IsAnswerOfRows, OfHeld, OnlyReads, ServesPermitted, terms_at, text_answer};
-ghost use Rattle.reg_desk.specs.View.{IsExtractOf, IsViewOf};
+ghost use Rattle.reg_desk.specs.View.{IsViewOf};
 
 use crate::answer::Answer;
-use crate::serving::listing::sees_project;
-use crate::serving::{are_equal_names, refused};
+use crate::serving::refused;
+use crate::serving::seen::seen_head;
 use crate::view::{Look, extract};
 use ags_links::Graph;
 use ags_text::Sequence;
@@ -43,7 +43,7 @@ pub(super) fn serve_extract<K: Keep>(
     }
 }
 
-/// The text of the extract of a deposit of the project, if it is not withdrawn and its row of PROJ is shown.
+/// The text of the extract of a deposit of the project, if it is seen: that is decided first, as for a listing.
 fn draw<K: Keep>(
     alloc: Global,
     keep: &mut K,
@@ -65,35 +65,11 @@ fn draw<K: Keep>(
     if number == 0 || number > keep.count() {
         return Ok(None);
     }
-    let head = keep.head(number)?;
-    if head.withdrawn || !are_equal_names(&head.project, project) {
+    let Some(head) = seen_head(alloc, keep, policy, caller, project, day, number)? else {
         return Ok(None);
-    }
+    };
     let look = Look::at(policy, caller, &head, day);
-    draw_held(alloc, keep, &look, number, groups)
-}
-
-/// The text of the deposit's extract, if its row of PROJ is shown: that is decided first, as for a listing, so that no
-/// other row is read of a deposit that is hidden.
-fn draw_held<K: Keep>(
-    alloc: Global,
-    keep: &mut K,
-    look: &Look,
-    number: u32,
-    groups: &[&[u8]],
-) -> Result<Option<Vec<u8>>, KeepError>
-    requires working { K.has_failed keep.old ≡ false }
-    requires number { K.is_sound keep.old → (0 < number) × (number ≤ length (K.deposits keep.old)) }
-    ensures reads { OnlyReads K.Keep keep.old keep.new (fails result) }
-    ensures drawn { K.is_sound keep.new → IfOk result (λ text. OfHeld K.Keep keep.old number (λ file.
-        IsExtractOf look.now (file_of file) (names_in groups.now) (option_map (λ t. t.items) text))) }
-    ensures rows { IfOk result (λ text. IfSome text (λ t. IsOfRows t.items)) }
-    ensures refused { result ≢ Err KeepError.Full }
-{
-    if !sees_project(alloc, keep, look, number)? {
-        return Ok(None);
-    }
-    let text = draw_seen(alloc, keep, look, number, groups)?;
+    let text = draw_seen(alloc, keep, &look, number, groups)?;
     Ok(Some(text))
 }
 

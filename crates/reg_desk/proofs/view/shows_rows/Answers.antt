@@ -1,4 +1,4 @@
-use Rattle.std.proofs.Common.{◌≡◌, ◌∙◌, Bool, Err, List, All, ap, subst, sym, true}
+use Rattle.std.proofs.Common.{◌≡◌, Err, List, All, ap, subst, sym, true}
 use Rattle.std.proofs.lemmas.List.{take_all}
 use Rattle.std.proofs.lemmas.List.Elements.{All-more, All-nil}
 use Rattle.std.proofs.lemmas.Result.{err_from_is_err_and}

@@ -1,17 +1,18 @@
-use Rattle.std.proofs.Common.{◌∙◌, sym, subst, ℕ, inl, inr, arith, Option, Vec, Global}
-use Rattle.std.specs.Prelude.{option_map}
-use Rattle.std.proofs.lemmas.Result.{IfOk-weaker}
-use Rattle.reg_store.specs.Keep.{fails}
-use Rattle.reg_desk.specs.Asked.{names_in}
+use Rattle.std.proofs.Common.{◌≡◌, ◌∙◌, None, Option, Some, false, ap, refl, sym, subst, inl, inr, arith}
+use Rattle.std.proofs.lemmas.Result.{err_from_is_err_and}
 use Rattle.ags_check.specs.Findings.{file_of}
+use Rattle.reg_store.specs.Keep.{fails, is_store}
+use Rattle.reg_store.specs.declared.keep.KeptHead.{KeptHead}
+use Rattle.reg_desk.specs.Asked.{names_in}
+use Rattle.reg_desk.specs.Extract.{IsExtractText}
+use Rattle.reg_desk.specs.Serving.{OnlyReads, terms_at}
 use Rattle.reg_desk.specs.Shown.{Look}
-use Rattle.reg_desk.specs.View.{look_on, IsExtractOf}
-use Rattle.reg_desk.specs.Serving.{terms_at}
-use Rattle.reg_desk.proofs.Serves.{reads_once, reads_more, still_works}
-use Rattle.reg_desk.proofs.Drawing.{headed, head_drawn, other_drawn, unheld_drawn}
+use Rattle.reg_desk.specs.View.{look_on}
+use Rattle.reg_desk.proofs.Serves.{reads_more, still_works}
+use Rattle.reg_desk.proofs.Drawing.{IsReadHead, head_drawn, none_drawn, unheld_drawn}
 use Rattle.reg_desk.proofs.Projects.{of_file_before, within_after}
 use Rattle.reg_desk.proofs.serving.drawing.draw.Goals as goal
-use Rattle.reg_desk.proofs.serving.drawing.draw.Goals.{then-number-eq0-via-then-number-eq0, then-number-eq0-via-else-number-eq0+then-number-count, then-head-via-then-head, then-head-via-else-head+then-not-are_equal_names}
+use Rattle.reg_desk.proofs.serving.drawing.draw.Goals.{then-number-eq0-via-then-number-eq0, then-number-eq0-via-else-number-eq0+then-number-count}
 
 pub returns-then-number-eq0-clause-drawn : goal.returns-then-number-eq0-clause-drawn
 returns-then-number-eq0-clause-drawn g c = λ s.
@@ -21,40 +22,52 @@ returns-then-number-eq0-clause-drawn g c = λ s.
       | then-number-eq0-via-else-number-eq0+then-number-count w ↦ inr (omega (arith, w.if-number-count.true, w.count.ensures s c.requires))
     ]) ∣₁
 
-pub returns-then-head-clause-drawn : goal.returns-then-head-clause-drawn
-returns-then-head-clause-drawn g c = λ s.
-    let first = reads_once g.K.Keep c.args.keep.now c.head.new.self _ c.in_ok-head.ensures.leaves in
-    let h = headed g.K.Keep c.args.keep.now c.head.new.self c.args.number c.in_ok-head.head (λ s0. (omega (arith, c.if-number-eq0.false), omega (arith, c.if-number-count.false, c.count.ensures s0 c.requires)))
-    (λ s0. g.met.K.Keep.fit c.args.keep.now s0 c.requires) first c.in_ok-head.ensures.read s in
-    ∣ other_drawn (terms_at g.K.Keep c.args.policy.now c.args.keep.now) (g.K.Keep.deposits c.args.keep.now) c.args.caller.now c.args.project.now c.args.number (names_in c.args.groups.now) c.args.day h.kept c.in_ok-head.head h.holds h.of_head
-    (elim c.then-head.branch [
-      | then-head-via-then-head w ↦ inl w.if-head.true
-      | then-head-via-else-head+then-not-are_equal_names w ↦ inr (sym w.are_equal_names.ensures ∙ w.if-not-are_equal_names.true)
-    ]) ∣₁
+pub seen_head-requires-clause-working : goal.seen_head-requires-clause-working
+seen_head-requires-clause-working g c = c.requires
 
-pub draw_held-requires-clause-working : goal.draw_held-requires-clause-working
-draw_held-requires-clause-working g c = still_works g.K.Keep c.args.keep.now c.head.new.self (reads_once g.K.Keep c.args.keep.now c.head.new.self _ c.in_ok-head.ensures.leaves)
+pub seen_head-requires-clause-number : goal.seen_head-requires-clause-number
+seen_head-requires-clause-number g c = λ s. (omega (arith, c.if-number-eq0.false), omega (arith, c.if-number-count.false, c.count.ensures s c.requires))
 
-pub draw_held-requires-clause-number : goal.draw_held-requires-clause-number
-draw_held-requires-clause-number g c =
-    within_after g.K.Keep c.args.keep.now c.head.new.self c.args.number (reads_once g.K.Keep c.args.keep.now c.head.new.self _ c.in_ok-head.ensures.leaves)
-    (λ s0. (omega (arith, c.if-number-eq0.false), omega (arith, c.if-number-count.false, c.count.ensures s0 c.requires)))
+pub draw_seen-requires-clause-working : goal.draw_seen-requires-clause-working
+draw_seen-requires-clause-working g c = still_works g.K.Keep c.args.keep.now c.seen_head.new.keep c.in_ok-head.ensures.reads
+
+pub draw_seen-requires-clause-number : goal.draw_seen-requires-clause-number
+draw_seen-requires-clause-number g c =
+    within_after g.K.Keep c.args.keep.now c.seen_head.new.keep c.args.number c.in_ok-head.ensures.reads
+    (λ s. (omega (arith, c.if-number-eq0.false), omega (arith, c.if-number-count.false, c.count.ensures s c.requires)))
+
+pub returns-in_err-text-clause-reads : goal.returns-in_err-text-clause-reads
+returns-in_err-text-clause-reads g c =
+    let p = err_from_is_err_and c.from_residual-in_err-text.result c.from_residual-in_err-text.ensures.1 in
+    subst (OnlyReads g.K.Keep c.args.keep.now c.draw_seen.new.keep) (sym (ap fails p.1 ∙ ap is_store p.2))
+    (reads_more g.K.Keep c.args.keep.now c.seen_head.new.keep c.draw_seen.new.keep _ c.in_ok-head.ensures.reads c.in_err-text.ensures.reads)
 
 pub returns-clause-reads : goal.returns-clause-reads
-returns-clause-reads g c =
-    reads_more g.K.Keep c.args.keep.now c.head.new.self c.draw_held.new.keep (fails c.draw_held.result) (reads_once g.K.Keep c.args.keep.now c.head.new.self _ c.in_ok-head.ensures.leaves) c.draw_held.ensures.reads
+returns-clause-reads g c = reads_more g.K.Keep c.args.keep.now c.seen_head.new.keep c.draw_seen.new.keep false c.in_ok-head.ensures.reads c.in_ok-text.ensures.reads
+
+pub returns-in_default-clause-drawn : goal.returns-in_default-clause-drawn
+returns-in_default-clause-drawn g c = λ s.
+    let K = g.K.Keep in
+    let s0 = c.in_ok-head.ensures.reads.sound s in
+    none_drawn K c.args.policy.now c.args.caller.now c.args.project.now c.args.number (names_in c.args.groups.now) c.args.day c.args.keep.now
+    (omega (arith, c.if-number-eq0.false), omega (arith, c.if-number-count.false, c.count.ensures s0 c.requires))
+    (subst (IsReadHead K c.args.policy.now c.args.caller.now c.args.project.now c.args.number (names_in c.args.groups.now) c.args.day c.args.keep.now) (none_here c.in_ok-head.field-0 c.in_default.not-Some) (c.in_ok-head.ensures.seen s))
+  where
+    none_here : (o : Option KeptHead) → ((h : KeptHead) → o ≡ Some h → ⊥) → o ≡ None
+    none_here None none = refl
+    none_here (Some h) none = absurd (none h refl)
 
 pub returns-clause-drawn : goal.returns-clause-drawn
 returns-clause-drawn g c = λ s.
     let K = g.K.Keep in
     let keep = c.args.keep.now in
-    let first = reads_once K keep c.head.new.self _ c.in_ok-head.ensures.leaves in
-    let s1 = c.draw_held.ensures.reads.sound s in
-    let h = headed K keep c.head.new.self c.args.number c.in_ok-head.head (λ s0. (omega (arith, c.if-number-eq0.false), omega (arith, c.if-number-count.false, c.count.ensures s0 c.requires)))
-    (λ s0. g.met.K.Keep.fit keep s0 c.requires) first c.in_ok-head.ensures.read s1 in
+    let rules = c.args.policy.now in
     let groups = names_in c.args.groups.now in
-    IfOk-weaker c.draw_held.result _ _ (λ (text : Option (Vec ℕ Global)) drawn.
-    head_drawn (terms_at K c.args.policy.now keep) (K.deposits keep) c.args.caller.now c.args.project.now c.args.number groups c.args.day c.in_ok-head.head (option_map (λ (t : Vec ℕ Global). t.items) text) h
-    c.if-head.false (sym c.are_equal_names.ensures ∙ c.if-not-are_equal_names.false)
-    (of_file_before K keep c.head.new.self c.args.number (λ file. IsExtractOf (look_on c.args.policy.now c.args.caller.now c.in_ok-head.head c.args.day) (file_of file) groups (option_map (λ (t : Vec ℕ Global). t.items) text)) first s1
-    (λ d file at is. subst (λ (look : Look). IsExtractOf look (file_of file) groups (option_map (λ (t : Vec ℕ Global). t.items) text)) c.at-look.ensures (drawn d file at is)))) (c.draw_held.ensures.drawn s)
+    let reads = c.in_ok-head.ensures.reads in
+    let s1 = c.in_ok-text.ensures.reads.sound s in
+    let s0 = reads.sound s1 in
+    head_drawn K rules c.args.caller.now c.args.project.now c.args.number groups c.args.day keep c.in-Some.head c.in_ok-text.text.items
+    (omega (arith, c.if-number-eq0.false), omega (arith, c.if-number-count.false, c.count.ensures s0 c.requires)) (g.met.K.Keep.fit keep s0 c.requires)
+    (subst (IsReadHead K rules c.args.caller.now c.args.project.now c.args.number groups c.args.day keep) c.in-Some.is (c.in_ok-head.ensures.seen s1))
+    (of_file_before K keep c.seen_head.new.keep c.args.number (λ file. IsExtractText (look_on rules c.args.caller.now c.in-Some.head c.args.day) (file_of file) groups c.in_ok-text.text.items) reads s1
+    (λ d file at is. subst (λ (look : Look). IsExtractText look (file_of file) groups c.in_ok-text.text.items) c.at-look.ensures (c.in_ok-text.ensures.drawn s d file at is)))

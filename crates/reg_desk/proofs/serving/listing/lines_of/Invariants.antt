@@ -12,5 +12,5 @@ invariant-loop-number g l = record {
   numbers : g.K.Keep.is_sound l.keep
       → l.number-items ≡ numbers_from 1 l.project (sents (g.K.Keep.deposits l.initial.keep));
   so_far : g.K.Keep.is_sound l.keep
-      → ∥ SoFar (terms_at g.K.Keep l.policy l.initial.keep) l.caller l.day (λ n. held n (g.K.Keep.deposits l.initial.keep)) l.number-items (drop l.number-index l.number-items) l.lines.items ∥₁;
+      → ∥ SoFar (terms_at g.K.Keep l.policy l.initial.keep) l.caller l.project l.day (λ n. held n (g.K.Keep.deposits l.initial.keep)) l.number-items (drop l.number-index l.number-items) l.lines.items ∥₁;
 }

@@ -1,13 +1,11 @@
-use Rattle.std.proofs.Common.{Bool, List, sym, subst}
+use Rattle.std.proofs.Common.{Bool, sym, subst}
 use Rattle.std.proofs.lemmas.Result.{IfOk-weaker}
-use Rattle.ags_check.specs.Findings.{CheckedFile}
 use Rattle.reg_store.specs.Fit.{kept_rows}
 use Rattle.reg_store.specs.Keep.{fails}
 use Rattle.reg_store.specs.Project.{AreProjectRows}
-use Rattle.reg_store.specs.declared.keep.HeadedRow.{HeadedRow}
 use Rattle.reg_desk.proofs.Drawing.{kept_lives, reads_answered}
 use Rattle.reg_desk.proofs.Serves.{reads_once}
-use Rattle.reg_desk.proofs.serving.listing.sees_project.Goals as goal
+use Rattle.reg_desk.proofs.serving.seen.sees_project.Goals as goal
 
 pub returns-clause-reads : goal.returns-clause-reads
 returns-clause-reads g c =
