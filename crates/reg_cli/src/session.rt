@@ -2,14 +2,22 @@
 
 ghost use Rattle.std.specs.Prelude.{◌≡◌, IfOk, Some};
 ghost use Rattle.reg_policy.specs.Callers.{caller_of};
-ghost use Rattle.reg_cli.specs.Sessions.{IsDayOr};
+ghost use Rattle.reg_desk.specs.Asked.{names_in};
+ghost use Rattle.reg_request.specs.Asks.{groups_sought};
+ghost use Rattle.reg_cli.specs.Asking.{AsksDesk};
+ghost use Rattle.reg_cli.specs.Sessions.{IsDayOr, request_in};
 
+use crate::failure::Failure;
+use crate::printing::ask_desk;
 use crate::words::{Action, Asker};
-use ags_cli::Fault;
+use ags_cli::{Fault, Watched};
+use reg_desk::Desk;
 use reg_policy::{Caller, Callers, Day, Name, NameError, Verb};
 use reg_request::{Ask, lists_groups, number_of_deposit};
+use reg_store::Keep;
 use std::alloc::Global;
 use std::borrow::CowStr;
+use std::io::Write;
 
 /// Who asks by this token, for the project and on the day that the arguments give, or on `today` where they give none.
 /// A token of no caller, a project that is no name and a day that is none are refused. No clause says which of them is
@@ -44,6 +52,26 @@ pub struct Session<'c> {
     pub caller: &'c Caller,
     pub project: Name,
     pub day: Day,
+}
+
+impl Session<'_> {
+    /// Requests from a desk what is asked, with its groups and its file, and prints the answer. It is refused as
+    /// `ask_desk` is.
+    pub fn ask<'w, K: Keep, W: Write>(
+        &self,
+        alloc: Global,
+        desk: &mut Desk<K>,
+        ask: &Ask<'_>,
+        groups: &[&[u8]],
+        file: &[u8],
+        out: &mut Watched<W>,
+    ) -> Result<u8, Failure<'w>>
+        requires { names_in groups.now ≡ groups_sought ask.now }
+        ensures { AsksDesk W.Write (request_in self.now ask.now file.now) desk.old desk.new out.old out.new result }
+    {
+        let request = ask.request(self.caller, &self.project, self.day, file, groups);
+        ask_desk(alloc, desk, &request, out)
+    }
 }
 
 /// The project of a name.

@@ -1,5 +1,5 @@
 -- The body, from what came with the head and what was read.
-use Rattle.std.proofs.Common.{◌≡◌, ℕ, ◌+◌, ◌<◌, ◌≤◌, inl, inr, List, [], ◌++◌, length, take, Option, Some, None, sym, ap, ◌∙◌, arith, append_assoc, length-append, Ok, Err}
+use Rattle.std.proofs.Common.{◌≡◌, ℕ, ◌<◌, ◌≤◌, inl, inr, List, [], ◌++◌, length, take, Option, Some, None, sym, ap, ◌∙◌, arith, append_assoc, length-append, Ok, Err}
 use Rattle.std.proofs.lemmas.List.{take-append-le, append-nil, length-take, length-take-le, nil_from_length, take_all}
 use Rattle.std.proofs.Math.Seq.{take-append_seam}
 use Rattle.std.specs.Prelude.{IfSome, Vec}

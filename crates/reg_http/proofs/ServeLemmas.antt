@@ -1,5 +1,5 @@
 -- How a connection goes, from how its steps went.
-use Rattle.std.proofs.Common.{◌≡◌, ℕ, ℤ, false, ◌+◌, ◌<◌, ◌≤◌, ◌⊎◌, inl, inr, List, [], ◌∷◌, ◌++◌, length, take, drop, Option, Some, None, Result, Ok, Err, refl, sym, ap, ◌∙◌, arith, length-append, subst}
+use Rattle.std.proofs.Common.{◌≡◌, ℕ, ℤ, false, ◌+◌, ◌<◌, ◌≤◌, ◌⊎◌, inl, inr, List, [], ◌∷◌, ◌++◌, length, take, drop, Option, Some, None, Result, Ok, Err, refl, sym, ap, ◌∙◌, arith, length-append, append_assoc, subst}
 use Rattle.std.specs.Prelude.{IfSome, Vec, ⊤}
 use Rattle.std.specs.declared.alloc.Global.{Global}
 use Rattle.std.specs.Io.KnownBytes.{Appends, Consumes}
@@ -19,7 +19,7 @@ use Rattle.reg_http.specs.Heads.{HasNoHead, HoldsHead, IsHead, longest_head}
 use Rattle.reg_http.specs.HeadParts.{HeadParts, head_parts}
 use Rattle.reg_http.specs.Rendering.{IsRendered, answer_status, rendered, status_of}
 use Rattle.reg_http.specs.Serving.{Exchange, ServesAnswer, ServesAsked, ServesOne, ServesRequest, WaitsFor, Written, body_reads, is_read}
-use Rattle.reg_http.specs.Views.{ReadsBody}
+use Rattle.reg_http.specs.Views.{FitsBody, ReadsBody}
 use Rattle.reg_http.specs.Reading as reading
 use Rattle.reg_http.specs.Serving as serving
 use Rattle.reg_http.specs.declared.refusal.Refusal.{Refusal}
@@ -28,7 +28,17 @@ use Rattle.reg_desk.specs.declared.answer.Answer.{Answer}
 use Rattle.reg_http.specs.declared.serve.Served.{Served}
 use Rattle.reg_http.specs.declared.serve.IoFault.{IoFault}
 use Rattle.reg_http.specs.declared.serve.IoFault.TheVariants as fault
+use Rattle.reg_http.specs.declared.request.body.BodyFault.{BodyFault}
 use Rattle.reg_http.specs.declared.request.body.BodyFault.TheVariants as ended
+
+-- the bytes of a reader are these, where contracts can name them
+abbrev Are : Option (List ℕ) → List ℕ → Type 0
+Are old bytes = IfSome old (λ named. bytes ≡ named)
+
+-- what holds of such bytes holds of those of the reader
+pub of_named : (old : Option (List ℕ)) {P : List ℕ → Type 0} → (bytes : List ℕ) × Are old bytes × P bytes → IfSome old P
+of_named None x = tt
+of_named (Some named) {P} (bytes, same, p) = subst P same p
 
 -- nothing was written
 Appends-none : (u : Option (List ℕ)) → Appends u u []
@@ -59,6 +69,13 @@ module _ {D : Type 0} (answers : D → Asked → Answer → D → Type 0) (calle
   serve_bad old d u w result why written = IfSome_then old why
       (λ bytes bad. by_way bytes d d u w (rendered BadHead) (status_of BadHead) result (serving.refused BadHead (reading.bad_head bad.0 bad.1)) written)
 
+  -- the same of some bytes
+  pub some_bad : (d : D) (u w : Option (List ℕ)) (result : Result Served IoFault) → Written u w (rendered BadHead) (status_of BadHead) result
+      → (bytes : List ℕ) × ServesOne answers callers day bytes d d u w result
+  some_bad d u w result written =
+      let one : List ℕ = 0 ∷ [] in
+      (one, by_way one d d u w (rendered BadHead) (status_of BadHead) result (serving.refused BadHead (reading.bad_head (omega arith) (none_at_one 0))) written)
+
 -- a head in the buffer is a head of the connection, whose rest is what came with it and what is left
 pub head_of : (bytes left : List ℕ) (buf : List ℕ) (headers : List HeaderSpan) (spans : RequestSpans) (filled : ℕ)
     → (held : HoldsHead buf headers spans filled) → filled ≤ 8192 → bytes ≡ take filled buf ++ left
@@ -72,6 +89,49 @@ head_of bytes left buf headers spans filled held small split =
       few = held.few;
     }
 
+-- the bytes of the connection begin with it
+pub head_named : (old left : Option (List ℕ)) (buf : List ℕ) (headers : List HeaderSpan) (spans : RequestSpans) (filled : ℕ)
+    → (held : HoldsHead buf headers spans filled) → filled ≤ 8192 → IfSome old (λ bytes. Consumes (Some bytes) left (take filled buf))
+    → IfSome old (λ bytes. (rest : List ℕ) × IsHead bytes held.head rest)
+head_named None left buf headers spans filled held small taken = tt
+head_named (Some bytes) None buf headers spans filled held small taken = absurd taken
+head_named (Some bytes) (Some more) buf headers spans filled held small taken = (_, head_of bytes more buf headers spans filled held small taken)
+
+-- they are the head and what came after it
+head_and : (old left : Option (List ℕ)) (front head early all : List ℕ) → front ≡ head ++ early → IfSome old (λ bytes. Consumes (Some bytes) left front)
+    → IfSome left (λ more. all ≡ early ++ more) → Are old (head ++ all)
+head_and None left front head early all split taken after = tt
+head_and (Some bytes) None front head early all split taken after = absurd taken
+head_and (Some bytes) (Some more) front head early all split taken after =
+    ap (λ (t : List ℕ). head ++ t) after ∙ sym (append_assoc head early more) ∙ ap (λ (t : List ℕ). t ++ more) (sym split) ∙ sym taken
+
+-- what is served of a head and what came after it is served of the bytes of the connection
+pub served_whole : (P : List ℕ → Type 0) (old left : Option (List ℕ)) (buf : List ℕ) (headers : List HeaderSpan) (spans : RequestSpans) (filled : ℕ) (early : List ℕ)
+    (parts : HeadParts) → (held : HoldsHead buf headers spans filled) → filled ≤ 8192 → early ≡ drop spans.len (take filled buf)
+    → IfSome old (λ bytes. Consumes (Some bytes) left (take filled buf))
+    → ((h : RequestHead) → IsRequestAt (take filled buf) headers spans h → parts ≡ head_parts h)
+    → (all : List ℕ) × IfSome left (λ more. all ≡ early ++ more) × ((bytes : List ℕ) (h : RequestHead) → IsHead bytes h all → parts ≡ head_parts h → P bytes)
+    → (bytes : List ℕ) × Are old bytes × P bytes
+served_whole P old left buf headers spans filled early parts held small same taken reads (all, after, way) =
+    let whole = head_of (take filled buf ++ []) [] buf headers spans filled held small refl in
+    let head : IsHead (print_request held.head ++ all) held.head all = record { reads = (whole.reads.0, refl); short = whole.short; few = whole.few } in
+    let split = held.at.reads.1 ∙ ap (λ (t : List ℕ). print_request held.head ++ t) (sym same) in
+    (print_request held.head ++ all, head_and old left (take filled buf) (print_request held.head) early all split taken after, way _ held.head head (reads held.head held.at))
+
+-- some bytes came after a head
+pub rest_of : (left : Option (List ℕ)) (early : List ℕ) → (all : List ℕ) × IfSome left (λ more. all ≡ early ++ more)
+rest_of None early = (early, tt)
+rest_of (Some more) early = (early ++ more, refl)
+
+-- what was read of a body, of such bytes
+pub body_of : (left : Option (List ℕ)) (early : List ℕ) (n : ℕ) (body : Result (Vec ℕ Global) BodyFault) → IfSome left (λ more. ReadsBody (early ++ more) n body)
+    → FitsBody n body → (all : List ℕ) × IfSome left (λ more. all ≡ early ++ more) × ReadsBody all n body
+body_of (Some more) early n body reads fits = (early ++ more, refl, reads)
+body_of None early n (Ok body) reads fits = (body.items, tt, (omega (arith, fits), sym (take_all n body.items (omega (arith, fits)))))
+body_of None early n (Err ended.Short) reads fits = ([], tt, fits)
+body_of None early n (Err ended.Read) reads fits = ([], tt, tt)
+body_of None early n (Err ended.Memory) reads fits = ([], tt, tt)
+
 module _ {D : Type 0} (answers : D → Asked → Answer → D → Type 0) (callers : List Credential) (day : ℤ) where
   -- a refusal of what was read of a head, or out of memory
   at_head : (parts : HeadParts) (bytes rest : List ℕ) (h : RequestHead) (d : D) (u w : Option (List ℕ)) (r : Refusal) (result : Result Served IoFault)
@@ -83,13 +143,6 @@ module _ {D : Type 0} (answers : D → Asked → Answer → D → Type 0) (calle
       way : (x : Refusal) → (is_out_of_memory x ≡ false → ask_of callers day parts ≡ Err x) → Exchange answers callers day bytes d d (rendered x) (status_of x)
       way OutOfMemory refuses = serving.no_memory h rest head
       way x refuses = serving.refused x (reading.refused h rest x head (ap (ask_of callers day) (sym same) ∙ refuses refl))
-
-  -- the same of all bytes with that head
-  pub refused_at : (left : Option (List ℕ)) (early : List ℕ) (parts : HeadParts) (d : D) (u w : Option (List ℕ)) (r : Refusal) (result : Result Served IoFault)
-      → (is_out_of_memory r ≡ false → ask_of callers day parts ≡ Err r) → Written u w (rendered r) (status_of r) result
-      → IfSome left (λ more. (bytes : List ℕ) (h : RequestHead) → IsHead bytes h (early ++ more) → parts ≡ head_parts h
-      → ServesOne answers callers day bytes d d u w result)
-  refused_at left early parts d u w r result agrees written = always left (λ more bytes h. at_head parts bytes (early ++ more) h d u w r result agrees written)
 
   -- the request at a head, and its body
   serve_body : (bytes all : List ℕ) (old new : D) (u w : Option (List ℕ)) (h : RequestHead) (a : Asking) (result : Result Served IoFault)
@@ -114,107 +167,42 @@ module _ {D : Type 0} (answers : D → Asked → Answer → D → Type 0) (calle
   serve_result bytes all old new u w h a (Err fault.Read) head asks way = tt
   serve_result bytes all old new u w h a result head asks way = serve_body bytes all old new u w h a result head asks way
 
-  -- a request as it was read
+  -- what a head asks was served of what came after it
   pub asked_at : (left : Option (List ℕ)) (early : List ℕ) (parts : HeadParts) (d e : D) (u w : Option (List ℕ)) (a : Asking) (result : Result Served IoFault)
-      → ask_of callers day parts ≡ Ok a → IfSome left (λ more. ServesAsked answers a day (early ++ more) d e u w result)
-      → IfSome left (λ more. (bytes : List ℕ) (h : RequestHead) → IsHead bytes h (early ++ more) → parts ≡ head_parts h
+      → ask_of callers day parts ≡ Ok a → (all : List ℕ) × IfSome left (λ more. all ≡ early ++ more) × ServesAsked answers a day all d e u w result
+      → (all : List ℕ) × IfSome left (λ more. all ≡ early ++ more) × ((bytes : List ℕ) (h : RequestHead) → IsHead bytes h all → parts ≡ head_parts h
       → ServesOne answers callers day bytes d e u w result)
-  asked_at left early parts d e u w a result asks served = IfSome_then left served
-      (λ more way bytes h head same. serve_result bytes (early ++ more) d e u w h a result head (ap (ask_of callers day) (sym same) ∙ asks) way)
+  asked_at left early parts d e u w a result asks (all, after, way) =
+      (all, after, λ bytes h head same. serve_result bytes all d e u w h a result head (ap (ask_of callers day) (sym same) ∙ asks) way)
 
-module _ {D : Type 0} (answers : D → Asked → Answer → D → Type 0) (callers : List Credential) (day : ℤ) where
-  -- no head was read
-  pub unnamed_bad : (d : D) (u w : Option (List ℕ)) (result : Result Served IoFault) → Written u w (rendered BadHead) (status_of BadHead) result
-      → (bytes : List ℕ) × ServesOne answers callers day bytes d d u w result
-  unnamed_bad d u w result written =
-      let one : List ℕ = 0 ∷ [] in
-      (one, by_way answers callers day one d d u w (rendered BadHead) (status_of BadHead) result (serving.refused BadHead (reading.bad_head (omega arith) (none_at_one 0))) written)
-
-  -- a head was read, and refused
-  pub unnamed_refused : (parts : HeadParts) (d : D) (u w : Option (List ℕ)) (r : Refusal) (result : Result Served IoFault)
+  -- what was read of a head was refused, or memory ran out
+  pub refused_at : (left : Option (List ℕ)) (early : List ℕ) (parts : HeadParts) (d : D) (u w : Option (List ℕ)) (r : Refusal) (result : Result Served IoFault)
       → (is_out_of_memory r ≡ false → ask_of callers day parts ≡ Err r) → Written u w (rendered r) (status_of r) result
-      → (bytes rest : List ℕ) (h : RequestHead) → IsHead bytes h rest → parts ≡ head_parts h
-      → (all : List ℕ) × ServesOne answers callers day all d d u w result
-  unnamed_refused parts d u w r result agrees written = λ bytes rest h head same.
-      (bytes, at_head answers callers day parts bytes rest h d u w r result agrees written head same)
+      → (all : List ℕ) × IfSome left (λ more. all ≡ early ++ more) × ((bytes : List ℕ) (h : RequestHead) → IsHead bytes h all → parts ≡ head_parts h
+      → ServesOne answers callers day bytes d d u w result)
+  refused_at left early parts d u w r result agrees written =
+      let came = rest_of left early in
+      (came.0, came.1, λ bytes h head same. at_head parts bytes came.0 h d u w r result agrees written head same)
 
-  -- a head was read, and what it asks was served
-  pub unnamed_asked : (parts : HeadParts) (d e : D) (u w : Option (List ℕ)) (a : Asking) (result : Result Served IoFault)
-      → ask_of callers day parts ≡ Ok a → (all : List ℕ) × ServesAsked answers a day all d e u w result
-      → (bytes rest : List ℕ) (h : RequestHead) → IsHead bytes h rest → parts ≡ head_parts h
-      → (all : List ℕ) × ServesOne answers callers day all d e u w result
-  unnamed_asked parts d e u w a result asks (all, way) = λ bytes rest h head same. (
-    print_request h ++ all,
-    serve_result answers callers day (print_request h ++ all) all d e u w h a result
-        (record { reads = (head.reads.0, refl); short = head.short; few = head.few }) (ap (ask_of callers day) (sym same) ∙ asks) way,
-  )
-
--- what is said of any bytes at a head, of a head in the buffer
-pub of_any : (P : Type 0) (buf : List ℕ) (headers : List HeaderSpan) (spans : RequestSpans) (filled : ℕ) (parts : HeadParts)
-    → (held : HoldsHead buf headers spans filled) → filled ≤ 8192
-    → ((h : RequestHead) → IsRequestAt (take filled buf) headers spans h → parts ≡ head_parts h)
-    → ((bytes rest : List ℕ) (h : RequestHead) → IsHead bytes h rest → parts ≡ head_parts h → P) → P
-of_any P buf headers spans filled parts held small reads way =
-    let bytes = take filled buf ++ [] in
-    way bytes _ held.head (head_of bytes [] buf headers spans filled held small refl) (reads held.head held.at)
-
--- what is said of a head's bytes, of a head in the buffer
-pub of_whole : (P : List ℕ → Type 0) (old left : Option (List ℕ)) (buf : List ℕ) (headers : List HeaderSpan) (spans : RequestSpans) (filled : ℕ) (early : List ℕ)
-    (parts : HeadParts) → (held : HoldsHead buf headers spans filled) → filled ≤ 8192 → early ≡ drop spans.len (take filled buf)
-    → IfSome old (λ bytes. Consumes (Some bytes) left (take filled buf))
-    → ((h : RequestHead) → IsRequestAt (take filled buf) headers spans h → parts ≡ head_parts h)
-    → IfSome left (λ more. (bytes : List ℕ) (h : RequestHead) → IsHead bytes h (early ++ more) → parts ≡ head_parts h → P bytes)
-    → IfSome old P
-of_whole P None left buf headers spans filled early parts held small same taken reads way = tt
-of_whole P (Some bytes) None buf headers spans filled early parts held small same taken reads way = absurd taken
-of_whole P (Some bytes) (Some more) buf headers spans filled early parts held small same taken reads way =
-    let head = head_of bytes more buf headers spans filled held small taken in
-    way bytes held.head (rw same head) (reads held.head held.at)
-
-module _ {D : Type 0} (answers : D → Asked → Answer → D → Type 0) where
+module _ {D : Type 0} (answers : D → Asked → Answer → D → Type 0) (a : Asking) (day : ℤ) (u w : Option (List ℕ)) where
   -- the desk was asked with the body
-  pub serve_read : (left : Option (List ℕ)) (early : List ℕ) (a : Asking) (day : ℤ) (body : Vec ℕ Global) (request : Asked) (d e : D) (u w : Option (List ℕ)) (result : Result Served IoFault)
-      → IfSome left (λ rest. ReadsBody (early ++ rest) a.length (Ok body)) → request ≡ asked_with a body.items day
-      → ServesRequest answers request d e u w result → is_read result ≡ false
-      → IfSome left (λ rest. ServesAsked answers a day (early ++ rest) d e u w result)
-  serve_read left early a day body request d e u w (Err fault.Read) reads is way ok = always left (λ rest. tt)
-  serve_read left early a day body request d e u w result reads is way ok = IfSome_then left reads
-      (λ rest read. inl (read.0, subst (λ (q : Asked). ServesRequest answers q d e u w result) (is ∙ ap (λ t. asked_with a t day) read.1) way))
-
-  -- the desk was asked with a body of that length
-  pub unnamed_read : (a : Asking) (day : ℤ) (body : List ℕ) (request : Asked) (d e : D) (u w : Option (List ℕ)) (result : Result Served IoFault)
-      → length body ≡ a.length → request ≡ asked_with a body day → ServesRequest answers request d e u w result → is_read result ≡ false
-      → (all : List ℕ) × ServesAsked answers a day all d e u w result
-  unnamed_read a day body request d e u w (Err fault.Read) long is way ok = (body, tt)
-  unnamed_read a day body request d e u w result long is way ok =
-      let whole = take_all a.length body (omega arith) in
-      (body, inl (omega arith, subst (λ (q : Asked). ServesRequest answers q d e u w result) (is ∙ ap (λ t. asked_with a t day) (sym whole)) way))
+  pub served_body : (all : List ℕ) (body : Vec ℕ Global) (asked : Asked) (d e : D) (result : Result Served IoFault) → ReadsBody all a.length (Ok body)
+      → asked ≡ asked_with a body.items day → ServesRequest answers asked d e u w result → is_read result ≡ false → ServesAsked answers a day all d e u w result
+  served_body all body asked d e (Err fault.Read) read is way ok = tt
+  served_body all body asked d e result read is way ok =
+      inl (read.0, subst (λ (q : Asked). ServesRequest answers q d e u w result) (is ∙ ap (λ t. asked_with a t day) read.1) way)
 
   -- the body ended early, and that was written
-  pub short_asked : (left : Option (List ℕ)) (early : List ℕ) (a : Asking) (day : ℤ) (d : D) (u w : Option (List ℕ)) (result : Result Served IoFault)
-      → IfSome left (λ rest. ReadsBody (early ++ rest) a.length (Err ended.Short)) → Written u w (rendered ShortBody) (status_of ShortBody) result
-      → IfSome left (λ rest. ServesAsked answers a day (early ++ rest) d d u w result)
-  short_asked left early a day d u w (Err fault.Read) short written = always left (λ rest. tt)
-  short_asked left early a day d u w result short written = IfSome_then left short (λ rest under. inr (inl (under, refl, written)))
+  pub served_short : (all : List ℕ) (d : D) (result : Result Served IoFault) → length all < a.length → Written u w (rendered ShortBody) (status_of ShortBody) result
+      → ServesAsked answers a day all d d u w result
+  served_short all d (Err fault.Read) under written = tt
+  served_short all d result under written = inr (inl (under, refl, written))
 
-module _ {D : Type 0} (answers : D → Asked → Answer → D → Type 0) (a : Asking) (day : ℤ) (d : D) (u w : Option (List ℕ)) where
   -- memory ran out before the desk was asked, and that was written
-  spent : (all : List ℕ) (result : Result Served IoFault) → Written u w (rendered OutOfMemory) (status_of OutOfMemory) result → ServesAsked answers a day all d d u w result
-  spent all (Err fault.Read) written = tt
-  spent all result written = inr (inr (refl, written))
-
-  pub spent_asked : (left : Option (List ℕ)) (early : List ℕ) (result : Result Served IoFault) → Written u w (rendered OutOfMemory) (status_of OutOfMemory) result
-      → IfSome left (λ rest. ServesAsked answers a day (early ++ rest) d d u w result)
-  spent_asked left early result written = always left (λ rest. spent (early ++ rest) result written)
-
-  pub unnamed_spent : (result : Result Served IoFault) → Written u w (rendered OutOfMemory) (status_of OutOfMemory) result → (all : List ℕ) × ServesAsked answers a day all d d u w result
-  unnamed_spent result written = ([], spent [] result written)
-
-  -- a body ended early, and that was written
-  pub unnamed_short : (result : Result Served IoFault) → 0 < a.length → Written u w (rendered ShortBody) (status_of ShortBody) result
-      → (all : List ℕ) × ServesAsked answers a day all d d u w result
-  unnamed_short (Err fault.Read) some written = ([], tt)
-  unnamed_short result some written = ([], inr (inl (some, refl, written)))
+  pub served_spent : (all : List ℕ) (d : D) (result : Result Served IoFault) → Written u w (rendered OutOfMemory) (status_of OutOfMemory) result
+      → ServesAsked answers a day all d d u w result
+  served_spent all d (Err fault.Read) written = tt
+  served_spent all d result written = inr (inr (refl, written))
 
 -- the reply to an answer was written
 pub serve_reply : (answer : Answer) (text given : List ℕ) (status : ℕ) (u w : Option (List ℕ)) (r : Result Served IoFault) → IsRendered answer text → given ≡ text
@@ -235,13 +223,8 @@ pub silent_bad : (old : Option (List ℕ)) (P : Type 0) → IfSome old (λ bytes
 silent_bad old P bad = IfSome_then old bad (λ bytes is none. absurd (omega (arith, is.0, ap length none)))
 
 -- where no byte comes there is no head
-pub silent_whole : (old left : Option (List ℕ)) (buf : List ℕ) (headers : List HeaderSpan) (spans : RequestSpans) (filled : ℕ) (parts : HeadParts) (P : Type 0)
-    → HoldsHead buf headers spans filled → filled ≤ 8192 → IfSome old (λ bytes. Consumes (Some bytes) left (take filled buf))
-    → ((h : RequestHead) → IsRequestAt (take filled buf) headers spans h → parts ≡ head_parts h)
-    → IfSome old (λ bytes. bytes ≡ [] → P)
-silent_whole old left buf headers spans filled parts P held small taken reads =
-    of_whole (λ bytes. bytes ≡ [] → P) old left buf headers spans filled _ parts held small refl taken reads
-    (always left (λ more bytes h head same none. absurd (none_of_nothing bytes h _ none head)))
+pub silent_whole : (old : Option (List ℕ)) (P : Type 0) (h : RequestHead) → IfSome old (λ bytes. (rest : List ℕ) × IsHead bytes h rest) → IfSome old (λ bytes. bytes ≡ [] → P)
+silent_whole old P h heads = IfSome_then old heads (λ bytes head none. absurd (none_of_nothing bytes h head.0 none head.1))
 
 module _ (callers : List Credential) (day : ℤ) where
   -- no more was read than a head may take
@@ -249,15 +232,10 @@ module _ (callers : List Credential) (day : ℤ) where
   waits_head old calls small = always old (λ bytes. record { headless = λ none. small; headed = λ h rest head. omega (arith, small) })
 
   -- a head was read whole, and the body that it asks for
-  pub waits_body : (old left : Option (List ℕ)) (buf : List ℕ) (headers : List HeaderSpan) (spans : RequestSpans) (filled : ℕ) (parts : HeadParts) (calls : ℕ)
-      → (held : HoldsHead buf headers spans filled) → filled ≤ 8192 → IfSome old (λ bytes. Consumes (Some bytes) left (take filled buf))
-      → ((h : RequestHead) → IsRequestAt (take filled buf) headers spans h → parts ≡ head_parts h)
-      → calls ≤ longest_head + body_reads (ask_of callers day parts)
-      → IfSome old (λ bytes. WaitsFor callers day bytes calls)
-  waits_body old left buf headers spans filled parts calls held small taken reads few =
-      of_whole (λ bytes. WaitsFor callers day bytes calls) old left buf headers spans filled _ parts held small refl taken reads
-      (always left (λ more bytes h head same. record {
-        headless = λ none. absurd (none h _ head);
-        headed = λ k rest x.
-            subst (λ (p : HeadParts). calls ≤ longest_head + body_reads (ask_of callers day p)) (same ∙ ap head_parts (sym (request_unique bytes k h rest _ x.reads head.reads).0)) few;
-      }))
+  pub waits_body : (old : Option (List ℕ)) (h : RequestHead) (parts : HeadParts) (calls : ℕ) → IfSome old (λ bytes. (rest : List ℕ) × IsHead bytes h rest)
+      → parts ≡ head_parts h → calls ≤ longest_head + body_reads (ask_of callers day parts) → IfSome old (λ bytes. WaitsFor callers day bytes calls)
+  waits_body old h parts calls heads same few = IfSome_then old heads (λ bytes head. record {
+    headless = λ none. absurd (none h head.0 head.1);
+    headed = λ k rest x.
+        subst (λ (p : HeadParts). calls ≤ longest_head + body_reads (ask_of callers day p)) (same ∙ ap head_parts (sym (request_unique bytes k h rest _ x.reads head.1.reads).0)) few;
+  })

@@ -45,27 +45,23 @@ module _ {K W : Type 0} {keep : KeepGhosts K} (writes : WriteGhosts W) where
       ServesOne (AnsweredBy keep) callers day bytes old new
       (writes.contents (tally_inner writer)) (writes.contents (tally_inner writer_after)) r
 
-  -- if these are the parts of a head, the bytes of some connection were served, and the reply was written to the writer
-  abbrev pub ServesSomeHead : List Credential → ℤ → Parts → Desk K keep → Desk K keep
-      → Tally W → Tally W → Result Served IoFault → Type 0
-  ServesSomeHead callers day parts old new writer writer_after r =
-      (bytes rest : List ℕ) (h : RequestHead) → IsHead bytes h rest → parts_seen parts ≡ head_parts h
-      → (all : List ℕ) × ServesOneTo callers day all old new writer writer_after r
+-- what came after a head: what came early with it and what the reader still had, if contracts can name that
+abbrev pub CameAfter : {R : Type 0} → ReadGhosts R → List ℕ → Tally R → List ℕ → Type 0
+CameAfter reads early reader all = IfSome (reads.remaining (tally_inner reader)) (λ left. all ≡ early ++ left)
 
 module _ {K R W : Type 0} {keep : KeepGhosts K} (reads : ReadGhosts R) (writes : WriteGhosts W) where
-  -- what a head asks was served, of what came early with it and what the reader still had, if contracts can name that
+  -- what a head asks was served, of what came after it
   abbrev pub ServesAskedFrom : HeadAsk → ℤ → List ℕ → Tally R → Desk K keep → Desk K keep
       → Tally W → Tally W → Result Served IoFault → Type 0
   ServesAskedFrom ask day early reader old new writer writer_after r =
-      IfSome (reads.remaining (tally_inner reader))
-      (λ left. ServesAskedTo writes ask day (early ++ left) old new writer writer_after r)
+      (all : List ℕ) × CameAfter reads early reader all × ServesAskedTo writes ask day all old new writer writer_after r
 
-  -- a head of these parts was served, with what came early and what the reader still had, if contracts can name that
+  -- a head of these parts was served, with what came after it
   abbrev pub ServesHead : List Credential → ℤ → Parts → List ℕ → Tally R → Desk K keep → Desk K keep
       → Tally W → Tally W → Result Served IoFault → Type 0
   ServesHead callers day parts early reader old new writer writer_after r =
-      IfSome (reads.remaining (tally_inner reader)) (λ left. (bytes : List ℕ) (h : RequestHead)
-      → IsHead bytes h (early ++ left) → parts_seen parts ≡ head_parts h
+      (all : List ℕ) × CameAfter reads early reader all × ((bytes : List ℕ) (h : RequestHead)
+      → IsHead bytes h all → parts_seen parts ≡ head_parts h
       → ServesOneTo writes callers day bytes old new writer writer_after r)
 
   -- the bytes of the reader were served, if contracts can name them, and the reply was written to the writer

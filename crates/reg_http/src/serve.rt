@@ -1,13 +1,13 @@
 //! One connection.
 ghost use Rattle.std.specs.Prelude.{◌≡◌, ◌≤◌, ◌+◌, ℕ, false, List, [], IfSome, IsTrue};
 ghost use Rattle.reg_http.specs.Asks.{ask_of};
-ghost use Rattle.reg_http.specs.Connections.{most_calls};
+ghost use Rattle.reg_http.specs.Connections.{ServesPair, most_calls};
 ghost use Rattle.reg_http.specs.HeadParts.{parts_seen};
 ghost use Rattle.reg_desk.specs.Asked.{asked};
 ghost use Rattle.reg_http.specs.Rendering.{is_fixed, rendered, status_of};
 ghost use Rattle.reg_http.specs.Serving.{ServesAnswer, WaitsFor, body_reads, is_read, is_write};
-ghost use Rattle.reg_http.specs.Sides.{ServesAskedFrom, ServesAskedTo, ServesHead, ServesOneFrom, ServesOneTo};
-ghost use Rattle.reg_http.specs.Sides.{ServesRequestTo, ServesSomeHead, WrittenTo};
+ghost use Rattle.reg_http.specs.Sides.{ServesAskedFrom, ServesHead, ServesOneFrom, ServesOneTo};
+ghost use Rattle.reg_http.specs.Sides.{ServesRequestTo, WrittenTo};
 ghost use Rattle.reg_http.specs.Tallies.{tally_inner, calls_of, tally_has_failed, IsFresh};
 
 use crate::notes::{Notes, Unnoted, head_in};
@@ -74,23 +74,8 @@ pub fn serve_noted<K: Keep, R: Read, W: Write, N: Notes>(
 ) -> Result<Served, IoFault>
     requires reader_fresh { IsFresh reader.old }
     requires writer_fresh { IsFresh writer.old }
-
-    // What is written and what the desk is then, by what the bytes of the reader are read as.
-    ensures served { ServesOneFrom R.Read W.Write callers.now day reader.old
-        desk.old desk.new writer.old writer.new result }
-
-    // The same of some bytes, where contracts cannot name the reader's own: the desk was called once at most.
-    ensures unnamed { (bytes : List ℕ) × ServesOneTo W.Write callers.now day bytes
-        desk.old desk.new writer.old writer.new result }
-
-    // Faults are those of the two sides, each exactly.
-    ensures read_fault { tally_has_failed reader.new ≡ is_read result }
-    ensures write_fault { tally_has_failed writer.new ≡ is_write result }
-    ensures unread { IsTrue (is_read result) → (desk.new ≡ desk.old) × (writer.new ≡ writer.old) }
-    ensures silent { IfSome (R.remaining (tally_inner reader.old)) (λ bytes. bytes ≡ [] → writer.new ≡ writer.old) }
-    ensures calls { calls_of reader.new ≤ most_calls }
-    ensures waits { IfSome (R.remaining (tally_inner reader.old)) (λ bytes.
-        WaitsFor callers.now day bytes (calls_of reader.new)) }
+    ensures { ServesPair R.Read W.Write callers.now day (reader.old, writer.old) (reader.new, writer.new)
+        desk.old desk.new result }
 {
     let mut buf = [0u8; LONGEST_HEAD];
     let mut headers = [EMPTY_HEADER_SPAN; MOST_FIELDS];
@@ -151,8 +136,6 @@ fn serve_head<K: Keep, R: Read, W: Write, N: Notes>(
     // At bytes that begin with a head of these parts.
     ensures served { ServesHead R.Read W.Write callers.now day parts.now early.now reader.old
         desk.old desk.new writer.old writer.new result }
-    ensures unnamed { ServesSomeHead W.Write callers.now day parts.now
-        desk.old desk.new writer.old writer.new result }
 
     // Faults are those of the two sides, each exactly, and a failed read changes neither desk nor writer.
     ensures read_fault { tally_has_failed reader.new ≡ is_read result }
@@ -186,10 +169,6 @@ fn serve_asked<K: Keep, R: Read, W: Write, N: Notes>(
 
     // What is written and what the desk is then, by the bytes that came early and those that the reader still had.
     ensures served { ServesAskedFrom R.Read W.Write asking.now day early.now reader.old
-        desk.old desk.new writer.old writer.new result }
-
-    // The same of some bytes, where contracts cannot name the reader's own.
-    ensures unnamed { (all : List ℕ) × ServesAskedTo W.Write asking.now day all
         desk.old desk.new writer.old writer.new result }
 
     // Faults are those of the two sides, each exactly, and a failed read changes neither desk nor writer.

@@ -1,4 +1,4 @@
-use Rattle.reg_http.proofs.ServeLemmas.{asked_at, refused_at, unnamed_asked, unnamed_refused}
+use Rattle.reg_http.proofs.ServeLemmas.{asked_at, refused_at}
 use Rattle.reg_http.proofs.serve.serve_head.Goals as goal
 
 pub returns-in-Ok-clause-served : goal.returns-in-Ok-clause-served
@@ -6,9 +6,3 @@ returns-in-Ok-clause-served g c = asked_at _ _ _ _ _ _ _ _ _ _ _ _ c.in-Ok.ensur
 
 pub returns-in-Err-clause-served : goal.returns-in-Err-clause-served
 returns-in-Err-clause-served g c = refused_at _ _ _ _ _ _ _ _ _ c.in-Err.refusal _ c.in-Err.ensures.agrees c.refuse.ensures.written
-
-pub returns-in-Ok-clause-unnamed : goal.returns-in-Ok-clause-unnamed
-returns-in-Ok-clause-unnamed g c = unnamed_asked _ _ _ _ _ _ _ _ _ _ c.in-Ok.ensures.agrees c.serve_asked.ensures.unnamed
-
-pub returns-in-Err-clause-unnamed : goal.returns-in-Err-clause-unnamed
-returns-in-Err-clause-unnamed g c = unnamed_refused _ _ _ _ _ _ _ c.in-Err.refusal _ c.in-Err.ensures.agrees c.refuse.ensures.written
