@@ -18,7 +18,7 @@ from .reading import Flaw, read_named
 
 class Comparison(NamedTuple):
     """The groups that differ; whether the groups of both are in another order; the flaws of each file; and the groups
-    whose rows have no key, since the dictionary lacks them."""
+    among those that differ whose rows have no key, since the dictionary lacks them."""
     groups: List[Differences]
     is_in_other_order: bool
     flaws: Tuple[List[Flaw], List[Flaw]] = ([], [])
@@ -51,5 +51,6 @@ def compare(old, new, dictionary=None, names=("the first file", "the second file
         each.renamed = [row._replace(following=renames.following[each.name, row.old_line]) for row in each.renamed]
     order = [name for name in first] + [name for name in second if name not in first]
     shared = [name for name in first if name in second]
-    return Comparison([found[name] for name in order if found[name]], shared != [n for n in second if n in first],
-                      flaws, [name for name in order if not words.has_group(name)])
+    groups = [found[name] for name in order if found[name]]
+    return Comparison(groups, shared != [name for name in second if name in first], flaws,
+                      [each.name for each in groups if each.state == "both" and not words.has_group(each.name)])
