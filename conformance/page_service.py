@@ -28,7 +28,8 @@ from page_states import without_borehole  # noqa: E402
 CELL = r'<c r="([A-Z]+[0-9]+)"[^>]*>(?:<is><t[^>]*>([^<]*)</t></is>|<v>([^<]*)</v>)</c>'
 # bin/assist with 200 MB of memory for an answer.
 WITH_LITTLE_MEMORY = "import sys; from assisting import service; service.serve(sys.argv[1], None, 20, 200 << 20)"
-NO_TABLES = "its rows cannot be laid out: it has the finding 5 1 -. Fix these first; bin/explain says how"
+NO_TABLES = ("its rows cannot be laid out: it has the finding 5 1 -. Fix these first: bin/fix FILE -o NEW --diff does "
+             "what it can, and bin/explain says how")
 
 
 def open_demo(page, token):

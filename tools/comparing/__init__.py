@@ -6,24 +6,28 @@
 
 Bytes in; nothing prints. What cannot be compared is tables.Refused, with reasons."""
 from collections import Counter
-from typing import List, NamedTuple
+from typing import List, NamedTuple, Tuple
 
 import ags
-from tables import Refused
-from tables.layout import dictionary_of, read
+from tables.layout import dictionary_of
 
 from .group import Differences, both, one
 from .pairs import Renames
+from .reading import Flaw, read_named
 
 
 class Comparison(NamedTuple):
-    """The groups that differ, and whether the groups of both are in another order."""
+    """The groups that differ; whether the groups of both are in another order; the flaws of each file; and the groups
+    among those that differ whose rows have no key, since the dictionary lacks them."""
     groups: List[Differences]
     is_in_other_order: bool
+    flaws: Tuple[List[Flaw], List[Flaw]] = ([], [])
+    without_keys: List[bytes] = []
 
     @property
     def is_same(self):
-        return not self.groups and not self.is_in_other_order
+        old, new = ([(one.what, one.group) for one in each] for each in self.flaws)
+        return not self.groups and not self.is_in_other_order and old == new
 
     def counts(self):
         """How many rows were added, are gone, were changed, were renamed, and are spelled otherwise."""
@@ -33,17 +37,9 @@ class Comparison(NamedTuple):
         return dict(out)
 
 
-def read_named(data, name):
-    """A file that can be compared."""
-    try:
-        return read(data)
-    except Refused as refused:
-        raise Refused(*(f"{name}: {reason}" for reason in refused.reasons)) from None
-
-
 def compare(old, new, dictionary=None, names=("the first file", "the second file")):
     """What differs between two files. Keys and parents are those of the dictionary, and of what the files' DICT add."""
-    files = [read_named(data, name) for data, name in zip((old, new), names)]
+    files, flaws = zip(*(read_named(data, name) for data, name in zip((old, new), names)))
     words = dictionary_of(dictionary, [entry for file in files for entry in ags.own_entries(file)])
     first, second = (file.by_name for file in files)
     renames, found = Renames(words), {}
@@ -55,4 +51,6 @@ def compare(old, new, dictionary=None, names=("the first file", "the second file
         each.renamed = [row._replace(following=renames.following[each.name, row.old_line]) for row in each.renamed]
     order = [name for name in first] + [name for name in second if name not in first]
     shared = [name for name in first if name in second]
-    return Comparison([found[name] for name in order if found[name]], shared != [n for n in second if n in first])
+    groups = [found[name] for name in order if found[name]]
+    return Comparison(groups, shared != [name for name in second if name in first], flaws,
+                      [each.name for each in groups if each.state == "both" and not words.has_group(each.name)])

@@ -74,10 +74,8 @@ def both(first, second, words, renames):
     out.headings_gone = [heading for heading in first.headings if heading not in second.columns]
     shared = [heading for heading in first.headings if heading in second.columns]
     out.headings_in_other_order = shared != [heading for heading in second.headings if heading in first.columns]
-    out.units = [Change(heading, first.measure(heading), second.measure(heading)) for heading in shared
-                 if first.measure(heading) != second.measure(heading)]
-    out.types = [Change(heading, first.kind(heading), second.kind(heading)) for heading in shared
-                 if first.kind(heading) != second.kind(heading)]
+    out.units = changes_of(first.unit, second.unit, shared, first.measure, second.measure)
+    out.types = changes_of(first.type, second.type, shared, first.kind, second.kind)
     out.gone = [Row(keyed(first, first.data[n], pairs.keys), first.data[n].line, 0) for n in pairs.gone]
     out.added = [Row(keyed(second, second.data[m], pairs.keys), 0, second.data[m].line) for m in pairs.added]
     out.renamed = [renamed(first.data[n], second.data[m], pairs, n, m) for n, m in pairs.renamed]
@@ -86,6 +84,14 @@ def both(first, second, words, renames):
     news = [m for _, m in sorted([*pairs.rows, *pairs.renamed])]
     out.rows_in_other_order = news != sorted(news)
     return out
+
+
+def changes_of(old, new, headings, before, after):
+    """The changes of a UNIT or TYPE row, if both files have it."""
+    if old is None or new is None:
+        return []
+    return [Change(heading, before(heading), after(heading)) for heading in headings
+            if before(heading) != after(heading)]
 
 
 def renamed(old, new, pairs, n, m):

@@ -4,6 +4,8 @@ import json
 import ags
 from explaining import texts
 
+from . import reading
+
 NAMES = {"added": "added", "gone": "gone", "changed": "changed", "renamed": "renamed",
          "spelled": "with numbers spelled in another way"}
 
@@ -24,13 +26,30 @@ def count_text(counts):
 def text(found, names):
     """The lines of all that differs."""
     if found.is_same:
-        return [f"{names[0]} and {names[1]} are the same."]
+        return [f"{names[0]} and {names[1]} are the same.", *limits(found, names)]
     out = [f"{names[0]} and {names[1]} differ: {count_text(found.counts())}."]
     if found.is_in_other_order:
         out.append("Groups are in another order.")
+    out += limits(found, names)
     for group in found.groups:
         out += ["", *group_text(group)]
     return out
+
+
+def limits(found, names):
+    """What is compared in part, and why."""
+    for name, flaws in zip(names, found.flaws):
+        for what, group, line in flaws:
+            if what == reading.IN_PARTS:
+                yield f"{name} has {ags.shown(group)} {what} (line {line}), which are compared as one group."
+            else:
+                part = "units" if what == reading.NO_UNITS else "types"
+                yield f"{name} has {what} in {ags.shown(group)} (line {line}), so its {part} are not compared."
+        if flaws:
+            yield f"bin/fix {name} -o NEW --diff puts that right where it can."
+    if found.without_keys:
+        yield (f"The dictionary has no {texts.names(found.without_keys)}, so rows there have no key: one that changed "
+               "is one gone and one added. --dictionary D names another dictionary.")
 
 
 def group_text(group):
@@ -96,6 +115,10 @@ def shown_row(row):
     return out
 
 
+def shown_flaw(flaw):
+    return {"what": flaw.what, "group": whole(flaw.group), "line": flaw.line}
+
+
 def shown_change(change):
     return {name: whole(getattr(change, name)) for name in ("heading", "old", "new")}
 
@@ -114,4 +137,7 @@ def as_json(found, names):
             "rows_in_other_order": group.rows_in_other_order,
             "headings_in_other_order": group.headings_in_other_order})
     return json.dumps({"old": names[0], "new": names[1], "same": found.is_same, "counts": found.counts(),
-                       "groups_in_other_order": found.is_in_other_order, "groups": groups}, indent=1)
+                       "groups_in_other_order": found.is_in_other_order,
+                       "flaws": {side: [shown_flaw(one) for one in each]
+                                 for side, each in zip(("old", "new"), found.flaws)},
+                       "groups_without_keys": list(map(whole, found.without_keys)), "groups": groups}, indent=1)

@@ -1,7 +1,7 @@
 """One AGS4 file of several.
 
     merged = merge([("a.ags", bytes), ("b.ags", bytes)], Chosen())
-    merged.data, merged.left_out
+    merged.data, merged.notes
 
 Bytes in, bytes out; nothing prints. Files that contradict each other are refused by Clashes, which names each clash;
 what cannot be read is tables.Refused."""
@@ -35,11 +35,14 @@ class Clashes(Exception):
 
 
 class Merged(NamedTuple):
-    """A file of several: where its lines come from (None: a line that comes from no row), and a line of text for each
-    row of PROJ and TRAN that is left out."""
+    """A file of several: where its lines come from (None: a line that comes from no row); a line of text for each row
+    of PROJ and TRAN that is left out, and for each file set that is one of two; the clashes that a preferred file
+    settled, with its name; and the groups that the dictionary lacks."""
     data: bytes
     origins: List[Optional[Source]]
-    left_out: List[str]
+    notes: List[str]
+    settled: List[Tuple[Clash, str]]
+    unknown: List[bytes]
     groups: int
     rows: int
 
@@ -61,7 +64,11 @@ def merge(inputs, chosen=Chosen()):
     if clashes:
         raise Clashes(clashes)
     groups = [join.group() for join in joined.values()]
-    return Merged(ags.written(groups), origins_of(joined.values()), left_out, len(groups),
+    settled = [each for join in joined.values() for each in join.settled]
+    notes = [f"left out: {each}" for each in left_out]
+    notes += joined_sets([(of, file.by_name[b"FILE"]) for of, file in files if b"FILE" in file.by_name])
+    return Merged(ags.written(groups), origins_of(joined.values()), notes, settled,
+                  [name for name in joined if not words.has_group(name)], len(groups),
                   sum(len(rows) for *_, rows in groups))
 
 
@@ -119,6 +126,21 @@ def one_row(name, first, parts, prefer, clashes, left_out):
     left_out += [f"{ags.shown(name)} of {each} (line {row_line(other)})" for each, other in first + parts
                  if other is not group and contents(other) != contents(group)]
     return holds
+
+
+def joined_sets(parts):
+    """A line for each file set that is one of two by now: each of two files has a name in it that the other lacks."""
+    sets, out = {}, []
+    for of, group in parts:
+        for row in group.data:
+            by_file = sets.setdefault(group.entry(row, b"FILE_FSET"), {})
+            by_file.setdefault(of, (row.line, set()))[1].add(group.entry(row, b"FILE_NAME"))
+    for name, by_file in sets.items():
+        (first, (line, names)), *others = by_file.items()
+        out += [f"FILE_FSET={ags.shown(name)} has other files in {first} (line {line}) and in {other} (line {at}): its "
+                "rows now have all of them. If these are two sets, rename one first"
+                for other, (at, more) in others if names - more and more - names]
+    return out
 
 
 def project(group):

@@ -14,6 +14,8 @@ from .findings import findings
 USAGE = "bin/merge FILE FILE .. -o OUT [--dictionary D] [--tran FILE] [--fill] [--prefer FILE]"
 ABOUT = "Writes one AGS4 file of several, if they do not contradict each other and it has no findings."
 SHOWN = 20
+# Groups whose rows say what a unit, a type or a code is.
+LISTS = (b"UNIT", b"TYPE", b"ABBR")
 
 
 def arguments(given):
@@ -44,13 +46,14 @@ def entry_text(entry, source):
 
 
 def clash_texts(clashes):
-    """The clashes with both files and lines: those of one row of which the one file has nulls are one line."""
+    """The clashes with both files and lines: those of one row of which the one file has nulls are one line, and come
+    last."""
     alike = {}
     for clash in clashes:
         single = None if clash.is_null else clash.heading
         name = clash.group, clash.what, clash.old_source, clash.new_source, not clash.old, single
         alike.setdefault(name, []).append(clash)
-    return [clash_text(each) for each in alike.values()]
+    return [clash_text(each) for each in sorted(alike.values(), key=lambda each: each[0].is_null)]
 
 
 def clash_text(clashes):
@@ -66,14 +69,24 @@ def clash_text(clashes):
 
 
 def advice(clashes):
-    """What the options would do."""
+    """How to go on: what the options would do, and what has to be put right first."""
     nulls = sum(clash.is_null for clash in clashes)
     if nulls:
         yield f"{nulls:,} {'clash' if nulls == 1 else 'clashes'} with a null: --fill takes the entry that is not null."
-    if any(clash.what != "UNIT" and clash.old_source.name != clash.new_source.name for clash in clashes):
-        yield "--prefer FILE takes the entries of that file."
+    sources = [{clash.old_source.name, clash.new_source.name} for clash in clashes if clash.what != "UNIT"]
+    names = sorted(set().union(*(each for each in sources if len(each) > 1)))
+    if names:
+        yield (f"{' or '.join(f'--prefer {name}' for name in names)} takes the entries of that file"
+               f"{', its nulls too unless --fill is given' if nulls else ''}.")
+    if any(clash.group in LISTS and not clash.what and not clash.is_null for clash in clashes):
+        yield "Two descriptions of one unit, type or code: if they mean the same, either file can be preferred."
+    if any(clash.what == "TYPE" for clash in clashes):
+        yield ("Numbers keep the decimals that they have: write the type of one file as the other's first, and bin/fix "
+               "pads them with zeros.")
     if any(clash.what == "UNIT" for clash in clashes):
         yield "Entries under different units are different values: convert one of the files first."
+    if any(len(each) == 1 for each in sources):
+        yield "A file that has two rows of one key has to be put right first: bin/explain says how."
 
 
 def finding_text(merged, finding):
@@ -102,13 +115,19 @@ def attempt(asked):
     if found:
         more = [f"and {texts.count(len(found) - SHOWN, 'more finding')}"] if len(found) > SHOWN else []
         shown = [finding_text(merged, each) for each in found[:SHOWN]]
-        return refused([f"the merged file has {texts.count(len(found), 'finding')} by {by}", *shown, *more], 1)
+        unknown = [f"the dictionary has no {texts.names(merged.unknown)}: --dictionary D names another dictionary"] \
+            if merged.unknown else []
+        said = f"the merged file has {texts.count(len(found), 'finding')} by {by}"
+        return refused([said, *shown, *more, *unknown], 1)
     with open(asked.out, "xb") as file:
         file.write(merged.data)
-    for line in merged.left_out:
-        print(f"left out: {line}")
+    for line in merged.notes:
+        print(line)
+    for name in dict.fromkeys(holder for _, holder in merged.settled):
+        for line in clash_texts([clash for clash, holder in merged.settled if holder == name]):
+            print(f"{name} holds: {line}")
     print(f"{asked.out}: {texts.count(len(inputs), 'file')}, {texts.count(merged.groups, 'group')}, "
-          f"{texts.count(merged.rows, 'DATA row')}; clean by {by}")
+          f"{texts.count(merged.rows, 'DATA row')}; clean by {by}", flush=True)
     return 0
 
 
@@ -120,6 +139,9 @@ def main(given):
         if os.path.lexists(asked.out):
             return refused([f"{asked.out} is not written over: it is there already"], 2)
         return attempt(asked)
+    except BrokenPipeError:
+        os.dup2(os.open(os.devnull, os.O_WRONLY), sys.stdout.fileno())
+        return 0
     except Clashes as fault:
         return refused([*clash_texts(fault.clashes), *advice(fault.clashes)], 1)
     except Refused as fault:

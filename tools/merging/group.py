@@ -37,10 +37,10 @@ class Row:
 
 
 class Join:
-    """A group of several files."""
+    """A group of several files. What contradicts is a clash, or settled where a preferred file has one of both."""
 
     def __init__(self, name, parts, words, chosen):
-        self.name, self.parts, self.chosen, self.clashes = name, parts, chosen, []
+        self.name, self.parts, self.chosen, self.clashes, self.settled = name, parts, chosen, [], []
         places = words.places.get(name, {})
         found = list(dict.fromkeys(heading for _, group in parts for heading in group.headings))
         self.headings = sorted(found, key=lambda heading: places.get(heading, len(places)))
@@ -93,15 +93,20 @@ class Join:
         if old == entry:
             return
         takes = self.chosen.fills and not old
-        keeps = self.chosen.fills and not entry
+        if takes or self.chosen.fills and not entry:
+            if takes:
+                row.entries[heading], row.origins[heading] = entry, source
+            return
+        key = [] if what else [(heading, row.entries[heading]) for heading in self.keys]
+        clash = Clash(self.name, key, heading, old, origin, entry, source, what)
+        ranks = self.rank(origin), self.rank(source)
         # Entries under another unit would be other values, whosever unit holds.
-        if not (takes or keeps) and what != "UNIT":
-            takes, keeps = (self.rank(one) < self.rank(other) for one, other in ((source, origin), (origin, source)))
-        if takes:
+        if what == "UNIT" or ranks[0] == ranks[1]:
+            self.clashes.append(clash)
+            return
+        self.settled.append((clash, min(origin, source, key=self.rank).name))
+        if ranks[1] < ranks[0]:
             row.entries[heading], row.origins[heading] = entry, source
-        elif not keeps:
-            key = [] if what else [(heading, row.entries[heading]) for heading in self.keys]
-            self.clashes.append(Clash(self.name, key, heading, old, origin, entry, source, what))
 
     def group(self):
         """The group as it is written."""

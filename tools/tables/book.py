@@ -12,7 +12,7 @@ from . import cells, numbers
 from .layout import Refused, is_beside
 from .sheets import letters
 
-SHOWN = 20
+SHOWN, FEW = 20, 3
 GROUP, HEADING = re.compile(r"[A-Z0-9]{1,4}"), re.compile(r"[A-Z0-9_]{1,9}")
 HEADERS = {1: "HEADING", 2: "UNIT", 3: "TYPE"}
 DAY, CLOCK = "%Y-%m-%d", "%H:%M"
@@ -81,7 +81,7 @@ class Sheet:
         own = [column for column, heading in headings.items() if self.is_own(column, heading)]
         beside = [heading for heading in headings.values() if is_beside(heading)]
         if beside:
-            self.left_out.append(f"{', '.join(beside)} of {self.name}")
+            self.left_out.append(f"{listing(beside)} of {self.name}")
         units, kinds = ([self.text(row, column) for column in own] for row in (2, 3))
         self.units, self.kinds = dict(zip(own, units)), dict(zip(own, kinds))
         for row, descriptor in HEADERS.items():
@@ -135,6 +135,9 @@ def entry_of(cell, kind, unit):
     if cell.kind == "text":
         return cell.value
     if cell.kind == "number":
+        if "%" in cells.PLAIN.sub("", cell.form):
+            raise Wrong(f"is {cell.value:.15g}, and is shown as a percentage: write the number that is meant, "
+                        "without %")
         return numbers.text_of(cell.value, kind, cell.form)
     if cell.kind == "time":
         return time_text(cell.value, kind, unit)
@@ -142,6 +145,12 @@ def entry_of(cell, kind, unit):
         raise Wrong("has a formula: paste its value")
     raise Wrong(f"has the error {cell.value}" if cell.kind == "error" else
                 "is TRUE or FALSE, and no text: write it as text")
+
+
+def listing(names):
+    """Names of columns: all, or the first few and how many more."""
+    more = len(names) - FEW
+    return f"{', '.join(names[:FEW])} and {more} more columns" if more > 1 else ", ".join(names)
 
 
 def in_bytes(texts):

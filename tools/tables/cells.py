@@ -14,7 +14,7 @@ from typing import NamedTuple, Union
 # What the parts of a workbook may come to, unpacked.
 LIMIT = 1 << 28
 PLACE = re.compile("([A-Z]{1,3})([0-9]+)")
-FORMS = {1: "0", 2: "0.00", 11: "0.00E+00"}
+FORMS = {1: "0", 2: "0.00", 9: "0%", 10: "0.00%", 11: "0.00E+00"}
 TIMES = {*range(14, 23), *range(27, 37), *range(45, 48), *range(50, 59)}
 # Of a form what is no sign of a day or time: texts, single characters, colours and conditions.
 PLAIN = re.compile(r'"[^"]*"|\\.|_.|\*.|\[(?![hms]+\])[^\]]*\]|General')

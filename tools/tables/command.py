@@ -25,7 +25,7 @@ def arguments(given):
     asked = parser.parse_args(given)
     if is_workbook(asked.file) and is_workbook(asked.out):
         parser.error("FILE and OUT are both a workbook")
-    if not is_workbook(asked.file) and asked.out.lower().endswith(".ags"):
+    if not is_workbook(asked.file) and asked.out.lower().endswith((".ags", ".csv", ".xls", ".ods")):
         parser.error("OUT of an AGS4 file is a folder, or a workbook (BOOK.xlsx)")
     if is_workbook(asked.file) and (asked.groups or asked.names or asked.parents or asked.geojson):
         parser.error("the way back takes no other option")
@@ -90,6 +90,9 @@ def main(given):
     try:
         files, said = outputs(asked)
         write(asked, files)
+        print("\n".join(said), flush=True)
+    except BrokenPipeError:
+        os.dup2(os.open(os.devnull, os.O_WRONLY), sys.stdout.fileno())
     except Refused as refused:
         print("\n".join(f"tables: {asked.file}: {reason}" for reason in refused.reasons), file=sys.stderr)
         return 2
@@ -99,5 +102,4 @@ def main(given):
     except OSError as fault:
         print(f"tables: cannot read or write {fault.filename or asked.out}: {fault.strerror}", file=sys.stderr)
         return 2
-    print("\n".join(said))
     return 0

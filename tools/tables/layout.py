@@ -41,15 +41,18 @@ class Table(NamedTuple):
     rows: List[List[str]]
 
 
-def read(data):
-    """The file, if its rows can be laid out as tables. Rules 1 and 2a, and groups without DATA rows, do not matter."""
+def read(data, allowed=lambda file: ()):
+    """The file, if its rows can be laid out as tables. Rules 1 and 2a, groups without DATA rows, and findings of the
+    allowed codes do not matter."""
     file = ags.File(data)
+    codes = allowed(file)
     for phase in (lambda given: ags.line_findings(given, True), ags.order_findings, ags.group_findings):
-        found = ags.in_order(one for one in phase(file) if one.code != "2" or one.line == 0)
+        found = ags.in_order(one for one in phase(file)
+                             if one.code not in codes and (one.code != "2" or one.line == 0))
         if found:
             others = f" and {len(found) - 1:,} more" if len(found) > 1 else ""
-            raise Refused(f"its rows cannot be laid out: it has the finding {found[0].printed()}{others}. "
-                          "Fix these first; bin/explain says how")
+            raise Refused(f"its rows cannot be laid out: it has the finding {found[0].printed()}{others}. Fix these "
+                          "first: bin/fix FILE -o NEW --diff does what it can, and bin/explain says how")
     return file
 
 
@@ -128,7 +131,8 @@ class Parents:
     def __init__(self, file, words, names):
         lacks = [name for name in names or file.by_name if not words.has_group(name)]
         if lacks:
-            raise Refused("no parents: the dictionary has no " + ", ".join(map(ags.shown, lacks)))
+            raise Refused(f"no parents: the dictionary has no {', '.join(map(ags.shown, lacks))}; --dictionary D names "
+                          "another one")
         self.file, self.words = file, words
         self.rows = ags.Rows(file, self.words)
 

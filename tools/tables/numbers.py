@@ -48,24 +48,26 @@ def form_of_type(kind):
 
 
 def text_of(number, kind, form):
-    """The entry of a number in a cell of a form: with the decimals of its type, else of its form, else as few as do."""
+    """The entry of a number in a cell of a form: with the decimals of its type, or where these are too few or none, of
+    its form; without either, with as few as do."""
     whole = Decimal(f"{number:.{DIGITS}g}")
-    is_power, decimals = wanted(kind, form)
-    if decimals is None:
+    ways = list(wanted(kind, form))
+    if not ways:
         return spelled(whole, max(0, -whole.normalize().as_tuple().exponent), False)
-    text = spelled(number, decimals, is_power)
-    if Decimal(text) != whole:
-        raise Loses(f"{whole.normalize():f} has more decimals than the {decimals} of its type or form")
+    texts = [spelled(number, decimals, is_power) for is_power, decimals in ways]
+    text = next((text for text in texts if Decimal(text) == whole), None)
+    if text is None:
+        raise Loses(f"{whole.normalize():f} has more decimals than the {ways[0][1]} of its type or form")
     return text
 
 
 def wanted(kind, form):
-    """Whether a number is spelled with a power of ten, and its decimals, or None where nothing says them."""
+    """The ways to spell a number by its type, and then by the form of its cell: whether with a power of ten, and its
+    decimals."""
     match = TYPES.fullmatch(kind)
     if match and match[2] in ("DP", "SCI"):
-        return match[2] == "SCI", int(match[1])
+        yield match[2] == "SCI", int(match[1])
     for pattern, is_power in ((PLAIN_FORM, False), (POWER_FORM, True)):
         match = pattern.fullmatch(form or "")
         if match:
-            return is_power, len(match[1] or "")
-    return False, None
+            yield is_power, len(match[1] or "")

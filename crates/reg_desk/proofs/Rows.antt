@@ -106,4 +106,4 @@ not_broken rows graph file view broken =
       found = data_rows (contents_of file.groups);
       lines = lines_spelled file.bytes file.groups view.clean.groups;
     } in
-    broken (subst AreRows (sym view.same_rows) are) (lines_count (plain_lines [] [] rows) rows graph file refl view)
+    broken (subst AreRows (sym view.same_rows) are) (lines_count rows graph file view)

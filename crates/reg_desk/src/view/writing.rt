@@ -75,7 +75,7 @@ fn is_kept(definition: bool, marked: bool) -> bool
 }
 
 /// Whether the row is marked.
-fn is_marked(marks: &[bool], row: usize) -> bool
+pub(super) fn is_marked(marks: &[bool], row: usize) -> bool
     ensures { result ≡ slice_index_or marks.now row false }
 {
     row < marks.len() && marks[row]
