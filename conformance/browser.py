@@ -118,6 +118,14 @@ class Browser:
             time.sleep(0.05)
         return text
 
+    @staticmethod
+    def until(want, measured):
+        """What is measured once it is `want`, or when the patience is over: the page hears of a mouse or finger later."""
+        deadline = time.monotonic() + PATIENCE
+        while (found := measured()) != want and time.monotonic() < deadline:
+            time.sleep(0.05)
+        return found
+
     def errors(self):
         """What the console has of errors, without those of replies that are no success."""
         return [line["message"] for line in self.ask("POST", "/se/log", {"type": "browser"})

@@ -105,37 +105,38 @@ def of_moving(page):
     b.press("0")
     first = scales(page)
     b.press("+")
-    page.check("plus zooms in", 1.5, round(scales(page)[0][0] / first[0][0], 2))
+    page.check("plus zooms in", 1.5, b.until(1.5, lambda: round(scales(page)[0][0] / first[0][0], 2)))
     b.press("-")
-    page.check("minus zooms out", 1.0, round(scales(page)[0][0] / first[0][0], 2))
+    page.check("minus zooms out", 1.0, b.until(1.0, lambda: round(scales(page)[0][0] / first[0][0], 2)))
     for key, at, way in (("left", 0, 60), ("right", 0, -60), ("up", 1, 60), ("down", 1, -60)):
         b.press("0", key)
-        page.check(f"{key} moves it", way, round(scales(page)[at][1] - first[at][1]))
+        page.check(f"{key} moves it", way, b.until(way, lambda: round(scales(page)[at][1] - first[at][1])))
     b.press("0")
     x, y, width, height = b.run("const { x, y, width, height } = document.querySelector('#look-result .plan svg')"
                                 ".getBoundingClientRect(); return [x, y, width, height];")
     middle = {"x": x + width / 2, "y": y + height / 2}
     b.command("Input.dispatchMouseEvent", type="mouseWheel", deltaX=0, deltaY=-200, **middle)
-    page.check("the wheel zooms in", True, scales(page)[0][0] > 1.1 * first[0][0])
+    page.check("the wheel zooms in", True, b.until(True, lambda: scales(page)[0][0] > 1.1 * first[0][0]))
     b.press("0")
     b.command("Input.dispatchMouseEvent", type="mousePressed", button="left", clickCount=1, **middle)
     beside = {"x": middle["x"] + 40, "y": middle["y"]}
     b.command("Input.dispatchMouseEvent", type="mouseMoved", button="left", buttons=1, **beside)
     b.command("Input.dispatchMouseEvent", type="mouseReleased", button="left", clickCount=1, **beside)
-    page.check("the mouse moves it", 40, round(scales(page)[0][1] - first[0][1]))
+    page.check("the mouse moves it", 40, b.until(40, lambda: round(scales(page)[0][1] - first[0][1])))
     b.press("0")
     for kind, right in (("touchStart", 0), ("touchMove", 25), ("touchMove", 50)):
         b.command("Input.dispatchTouchEvent", type=kind, touchPoints=[{"x": middle["x"] + right, "y": middle["y"]}])
     b.command("Input.dispatchTouchEvent", type="touchEnd", touchPoints=[])
-    page.check("a finger moves it", 50, round(scales(page)[0][1] - first[0][1]))
+    page.check("a finger moves it", 50, b.until(50, lambda: round(scales(page)[0][1] - first[0][1])))
     b.press("0")
     for kind, apart in (("touchStart", 40), ("touchMove", 60), ("touchMove", 80)):
         b.command("Input.dispatchTouchEvent", type=kind, touchPoints=[
             {"x": middle["x"] + each, "y": middle["y"], "id": number} for number, each in enumerate((-apart, apart))])
     b.command("Input.dispatchTouchEvent", type="touchEnd", touchPoints=[])
-    page.check("two fingers zoom in", 2.0, round(scales(page)[0][0] / first[0][0], 2))
+    page.check("two fingers zoom in", 2.0, b.until(2.0, lambda: round(scales(page)[0][0] / first[0][0], 2)))
     b.press("0")
-    page.check("0 shows all", round(first[0][0], 3), round(scales(page)[0][0], 3))
+    whole = round(first[0][0], 3)
+    page.check("0 shows all", whole, b.until(whole, lambda: round(scales(page)[0][0], 3)))
 
 
 def of_choosing(page):

@@ -20,7 +20,7 @@ sys.path.insert(0, os.path.join(os.path.dirname(os.path.abspath(__file__)), ".."
 import dictionaries  # noqa: E402
 import files  # noqa: E402
 import servers  # noqa: E402
-from servers import asking, head, post, sample  # noqa: E402
+from servers import NEARLY_FULL, asking, head, post, sample  # noqa: E402
 
 MB = 1 << 20
 LIMITS = (48, 96, 256)
@@ -55,10 +55,14 @@ class Place(servers.Place):
             os.remove(os.path.join(folder, name))
         super().__init__(program, folder, *(sample(name).decode() for name in ("policy.toml", "callers.toml")),
                          {"dictionary": dictionary or dictionaries.small()})
-        self.limit = limit
+        self.limit, self.is_nearly_full = limit, None
 
     def limited(self, *words, limit=None):
-        return self.run(*words, preexec_fn=limit_of(limit or self.limit))
+        """What a start under a limit prints, says and ends with. Whether it also says that the next start needs more
+        than three quarters of the limit is in `is_nearly_full`."""
+        out, said, status = self.run(*words, preexec_fn=limit_of(limit or self.limit))
+        self.is_nearly_full = said.startswith(NEARLY_FULL)
+        return out, said.removeprefix(NEARLY_FULL), status
 
     def least(self, *words):
         """The least limit in MB under which this start ends with 0."""
@@ -71,7 +75,7 @@ class Place(servers.Place):
 
 
 def filled(place, file_of):
-    """The files that a server took until it was out of memory, and what it answered to a listing then."""
+    """The files that a server took until it was out of memory, what it answered to a listing then, and what it said."""
     taken, listed = [], b""
     with place.serve(None, preexec_fn=limit_of(place.limit)) as server:
         while True:
@@ -81,16 +85,19 @@ def filled(place, file_of):
                 break
             taken.append(data)
         listed = server.ask(LISTING)
-    return taken, reply, listed
+        server.process.terminate()
+        return taken, reply, listed, server.rest()[1]
 
 
 def try_kind(place, kind, name):
     file_of = KINDS[kind]
-    taken, reply, listed = filled(place, file_of)
+    taken, reply, listed, said = filled(place, file_of)
     place.check(f"{name}: what is refused", b"HTTP/1.1 503", reply[:12])
     place.check(f"{name}: the listing after it", len(taken), listed.count(b'"number"'))
+    place.check(f"{name}: it is said once that it is nearly full", NEARLY_FULL, said)
     out, said, status = place.limited(*asking("list"))
     place.check(f"{name}: a start, and its lines", (len(taken), b"", 0), (out.count(b"\n"), said, status))
+    place.check(f"{name}: the start says that it is nearly full", True, place.is_nearly_full)
     if not taken:
         return
     out, said, status = place.limited(*asking("extract", "1"))

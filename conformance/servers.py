@@ -294,11 +294,14 @@ def reset(connection):
 
 # ---- nginx
 
+# The site without its limits of connections. nginx may count one that its client has closed.
+ANY_CONNECTIONS = [
+    ("limit_conn_status 429;\n    limit_conn connections_of_address 20;\n", "limit_conn_status 429;\n"),
+    ("        limit_conn connections_of_address 20;\n        limit_conn connections_of_project 50;\n", "")]
+
 # What the site limits, without limits: a test asks more often than people do.
 WITHOUT_LIMITS = [("rate=20r/s", "rate=1000000r/s"), ("rate=50r/s", "rate=1000000r/s"),
-                  ("rate=2r/s", "rate=1000000r/s"),
-                  ("limit_conn_status 429;\n    limit_conn connections_of_address 20;\n", "limit_conn_status 429;\n"),
-                  ("        limit_conn connections_of_address 20;\n        limit_conn connections_of_project 50;\n", "")]
+                  ("rate=2r/s", "rate=1000000r/s"), *ANY_CONNECTIONS]
 
 
 def address_of(place):
