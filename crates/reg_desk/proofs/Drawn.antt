@@ -35,7 +35,7 @@ receipt_no_text : (terms : Terms) (embargo : ℤ) (count : ℕ) (first : Option 
     → Text text ≡ receipt_of terms embargo count first → ⊥
 receipt_no_text terms embargo count (Some was) text h = cc
 receipt_no_text terms embargo count None text h =
-    neither (nat_lt count terms.limit) (Receipt (count + 1) embargo) Full text (λ e. cc) (λ e. cc) h
+    neither (nat_lt count terms.most) (Receipt (count + 1) embargo) Full text (λ e. cc) (λ e. cc) h
 
 withdrawal_no_text : (caller : Caller) (project : List ℕ) (number : ℕ) (of : Option Deposit) (text : List ℕ)
     → Text text ≡ withdrawal_of caller project number of → ⊥

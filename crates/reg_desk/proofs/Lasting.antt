@@ -79,7 +79,7 @@ receipt_fields n m e f h = (cc, cc)
 -- the receipt of a deposit that is not taken is that of an equal one
 pub receipt_first : (terms : Terms) (embargo : ℤ) (count : ℕ) (first : Option (ℕ × ℤ)) (n : ℕ) (e : ℤ) → Receipt n e ≡ receipt_of terms embargo count first → (Receipt n e ≢ Receipt (count + 1) embargo) → first ≡ Some (n, e)
 receipt_first terms embargo count (Some was) n e h other = let f = receipt_fields n was.0 e was.1 h in ap (λ (k : ℕ). Some (k, was.1)) (sym f.0) ∙ ap (λ (x : ℤ). Some (n, x)) (sym f.1)
-receipt_first terms embargo count None n e h other = absurd (full (nat_lt count terms.limit) h)
+receipt_first terms embargo count None n e h other = absurd (full (nat_lt count terms.most) h)
   where
     full : (t : Bool) → Receipt n e ≡ cond t (Receipt (count + 1) embargo) Full → ⊥
     full true h = other h

@@ -42,7 +42,7 @@ received terms state caller project embargo bytes day reply h t =
     let permitted = subst (λ (d : Decision). OrDenied d (OrRefused terms bytes stands) reply) t.0.1 h in
     clean_stands terms bytes stands reply t.1 t.2 permitted
     ∙ ap (receipt_of terms embargo (length state)) t.3
-    ∙ cond-true (nat_lt (length state) terms.limit) (Receipt (length state + 1) embargo) Full (lt-ltb (length state) terms.limit t.4)
+    ∙ cond-true (nat_lt (length state) terms.most) (Receipt (length state + 1) embargo) Full (lt-ltb (length state) terms.most t.4)
 
 -- ---- the receipt of a new number
 
@@ -77,9 +77,9 @@ room_for true number embargo h = refl
 room_for false number embargo h = absurd cc
 
 new_number : (terms : Terms) (embargo : ℤ) (count : ℕ) (first : Option (ℕ × ℤ)) → ((k : ℕ) (e : ℤ) → first ≡ Some (k, e) → k < 1 + count) → receipt_of terms embargo count first ≡ Receipt (count + 1) embargo
-    → (first ≡ None) × (count < terms.limit)
+    → (first ≡ None) × (count < terms.most)
 new_number terms embargo count (Some held) low h = let same : held.0 ≡ count + 1 = cc in let lt = low held.0 held.1 refl in absurd (omega (arith, same, lt))
-new_number terms embargo count None low h = (refl, ltb-true count terms.limit (room_for (nat_lt count terms.limit) (count + 1) embargo h))
+new_number terms embargo count None low h = (refl, ltb-true count terms.most (room_for (nat_lt count terms.most) (count + 1) embargo h))
 
 taken : (terms : Terms) (state : List Deposit) (caller : Caller) (project : List ℕ) (embargo : ℤ) (bytes : List ℕ)
     (day : ℤ) (reply : Answer)

@@ -45,18 +45,18 @@ fine_of terms caller project bytes day given n permit small same clean = record 
 receipt_asks : (terms : Terms) (embargo : ℤ) (count : ℕ) (first : Option (ℕ × ℤ)) → AsksStore (λ r. r ≡ receipt_of terms embargo count first)
 receipt_asks terms embargo count (Some held) = ((λ n e. cc, λ e. cc), λ found e. cc, λ e. cc)
 receipt_asks terms embargo count None =
-    cond_both (nat_lt count terms.limit) (Receipt (count + 1) embargo) Full (λ a. AsksStore (λ r. r ≡ a))
+    cond_both (nat_lt count terms.most) (Receipt (count + 1) embargo) Full (λ a. AsksStore (λ r. r ≡ a))
     (λ _. ((λ n e. cc, λ e. cc), λ found e. cc, λ e. cc)) (λ _. ((λ n e. cc, λ e. cc), λ found e. cc, λ e. cc))
 
 -- ---- what is not taken
 
-receipt_new : (terms : Terms) (embargo : ℤ) (count : ℕ) (first : Option (ℕ × ℤ)) → first ≡ None → count < terms.limit → Receipt (count + 1) embargo ≡ receipt_of terms embargo count first
+receipt_new : (terms : Terms) (embargo : ℤ) (count : ℕ) (first : Option (ℕ × ℤ)) → first ≡ None → count < terms.most → Receipt (count + 1) embargo ≡ receipt_of terms embargo count first
 receipt_new terms embargo count first none room =
-    ap (λ (t : Bool). cond t (Receipt (count + 1) embargo) Full) (sym (lt-ltb count terms.limit room)) ∙ ap (receipt_of terms embargo count) (sym none)
+    ap (λ (t : Bool). cond t (Receipt (count + 1) embargo) Full) (sym (lt-ltb count terms.most room)) ∙ ap (receipt_of terms embargo count) (sym none)
 
-receipt_full : (terms : Terms) (embargo : ℤ) (count : ℕ) (first : Option (ℕ × ℤ)) → first ≡ None → terms.limit ≤ count → Full ≡ receipt_of terms embargo count first
+receipt_full : (terms : Terms) (embargo : ℤ) (count : ℕ) (first : Option (ℕ × ℤ)) → first ≡ None → terms.most ≤ count → Full ≡ receipt_of terms embargo count first
 receipt_full terms embargo count first none full =
-    ap (λ (t : Bool). cond t (Receipt (count + 1) embargo) Full) (sym (le-ltb count terms.limit full)) ∙ ap (receipt_of terms embargo count) (sym none)
+    ap (λ (t : Bool). cond t (Receipt (count + 1) embargo) Full) (sym (le-ltb count terms.most full)) ∙ ap (receipt_of terms embargo count) (sym none)
 
 refusal_other : (terms : Terms) (bytes : List ℕ) (n : ℕ) (e : ℤ) (answer : Answer) → IsRefusal terms.dictionary bytes answer → answer ≢ Receipt n e
 refusal_other terms bytes n e answer refusal same = subst (IsRefusal terms.dictionary bytes) same refusal
@@ -188,7 +188,7 @@ module _ {K : Type 0} (keep : Ghosts K) (rules : List Rule) (caller : Caller) (p
   pub deposit_full : (mid : K) → IsFine terms caller project bytes day → OnlyReads keep old mid false → (keep.is_sound mid → first ≡ None)
       → (keep.is_sound mid → keep.limit mid ≤ length (keep.deposits mid)) → Serves keep rules request old mid Full
   deposit_full mid fine reads unheld full =
-      let no_room : keep.is_sound mid → terms.limit ≤ length state = λ s. omega (arith, full s, ap length (reads.same s refl), reads.same_limit) in
+      let no_room : keep.is_sound mid → terms.most ≤ length state = λ s. omega (arith, full s, ap length (reads.same s refl), reads.same_limit) in
       replies_serves keep rules request old mid Full reads tt
       (λ s. ∣ fine_reply Full fine (receipt_full terms embargo (length state) first (unheld s) (no_room s)) ∣₁)
       (λ s. inr (λ list change. omega (arith, change.0.4, no_room s), refl)) (fine_asks fine).0
