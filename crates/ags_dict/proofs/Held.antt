@@ -1,5 +1,5 @@
 -- Maps from texts: what a change at one text leaves at any text.
-use Rattle.std.proofs.Common.{◌≡◌, ℕ, List, Bool, true, false, cond, Option, sym, subst, ◌∙◌, ⊎_elim}
+use Rattle.std.proofs.Common.{◌≡◌, ℕ, List, Bool, true, false, cond, Option, Some, sym, ap, subst, ◌∙◌, ⊎_elim}
 use Rattle.std.specs.Ordering.{is_eq, nat_cmp}
 use Rattle.std.specs.Cmp.{eq_by_cmp_equiv}
 use Rattle.std.specs.Cmp.Lexicographic.{slice_cmp, bytes_decides, nat_list_cmp_total, nat_list_eq_equiv}
@@ -43,3 +43,10 @@ pub held_updates : {X : Type 0} (bs : List ℕ) (m n : BTreeMap (Vec ℕ Global)
 held_updates bs m n w h =
     by_bytes (value_at m) (value_at n) bs w h.1
     (λ cs e. other_entries _ _ _ _ h.3 _ (λ x y. (eq_by_cmp_equiv nat_list_cmp_total).congr cs x.items y.items) (λ k. apart_in_order bs cs k.items e))
+
+-- what a map has after a change at the key of a text
+pub held_noted : {X : Type 0} (key : Vec ℕ Global) (bs : List ℕ) (m n : BTreeMap (Vec ℕ Global) X) (w : X) → key.items ≡ bs
+    → UpdatesBy (λ x y. slice_cmp nat_cmp x.items y.items) (λ k. slice_cmp nat_cmp key.items k.items) m n (Some w)
+    → (cs : List ℕ) → value_at n cs ≡ cond (bytes_eq bs cs) (Some w) (value_at m cs)
+held_noted key bs m n w same h cs =
+    held_updates key.items m n (Some w) h cs ∙ ap (λ (b : List ℕ). cond (bytes_eq b cs) (Some w) (value_at m cs)) same

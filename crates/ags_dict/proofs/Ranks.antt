@@ -126,7 +126,7 @@ place_after group heading xs ys all earlier own none count at e =
 pub rank_push : (headings : List (List ℕ)) (heading q : List ℕ) → place_in (headings ++ heading ∷ []) q ≡ option_or (place_in headings q) (cond (bytes_eq heading q) (Some (length headings)) None)
 rank_push headings heading q = position_push (λ h. bytes_eq h q) headings heading
 
-or_none : (o : Option ℕ) → option_or o None ≡ o
+pub or_none : (o : Option ℕ) → option_or o None ≡ o
 or_none None = refl
 or_none (Some n) = refl
 

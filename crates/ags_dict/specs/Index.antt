@@ -36,10 +36,10 @@ abbrev pub NotesRank : List ℕ → List ℕ → ℕ → Ranks → Ranks → Typ
 NotesRank group heading rank old new = (g h : List ℕ) → rank_at new g h
     ≡ option_or (rank_at old g h) (if bytes_eq group g && bytes_eq heading h then Some rank else None)
 
--- the heading gets this place in the order of its group, whatever it had, and other headings keep theirs
-abbrev pub PutsRank : List ℕ → List ℕ → ℕ → Ranks → Ranks → Type 0
-PutsRank group heading rank old new = (g h : List ℕ) → rank_at new g h
-    ≡ (if bytes_eq group g && bytes_eq heading h then Some rank else rank_at old g h)
+-- the same in the order of one group
+abbrev pub NotesFirst : List ℕ → ℕ → BTreeMap (Vec ℕ Global) ℕ → BTreeMap (Vec ℕ Global) ℕ → Type 0
+NotesFirst heading rank old new = (h : List ℕ) → value_at new h
+    ≡ option_or (value_at old h) (if bytes_eq heading h then Some rank else None)
 
 -- these are the places of the items that pass the test, in their order
 abbrev pub ArePlaces : {X : Type 0} → (X → Bool) → List X → List ℕ → Type 0

@@ -1,7 +1,7 @@
 //! The places of texts in a list.
 
 ghost use Rattle.std.specs.Prelude.{◌≡◌, ℕ, List, [], OnOk, slice_get, None};
-ghost use Rattle.ags_dict.specs.Index.{places_at, rank_at, NotesPlace, NotesRank, PutsRank};
+ghost use Rattle.ags_dict.specs.Index.{places_at, rank_at, NotesPlace, NotesRank, NotesFirst};
 
 use std::alloc::{AllocError, Global};
 use std::collections::BTreeMap;
@@ -48,13 +48,9 @@ impl PlacesByText {
     ) -> Result<(), AllocError>
         ensures { OnOk result (NotesPlace text.now place self.old self.new) }
     {
-        if let Some(places) = self.held.get_mut(text) {
-            places.push(place)?;
-            return Ok(());
-        }
-        let places = vec![in alloc; place]?;
         let text = Vec::from_slice(alloc, text)?;
-        self.held.insert(text, places)?;
+        let places = self.held.entry(text)?.or_insert(Vec::new(alloc));
+        places.push(place)?;
         Ok(())
     }
 }
@@ -92,31 +88,21 @@ impl Ranks {
     ) -> Result<(), AllocError>
         ensures { OnOk result (NotesRank group.now heading.now rank self.old self.new) }
     {
-        if self.of(group, heading).is_none() {
-            self.put(alloc, group, heading, rank)?;
-        }
-        Ok(())
-    }
-
-    /// Puts the place of a heading in its group's order.
-    fn put(
-        &mut self,
-        alloc: Global,
-        group: &[u8],
-        heading: &[u8],
-        rank: usize,
-    ) -> Result<(), AllocError>
-        ensures { OnOk result (PutsRank group.now heading.now rank self.old self.new) }
-    {
-        let heading = Vec::from_slice(alloc, heading)?;
-        if let Some(of_group) = self.held.get_mut(group) {
-            of_group.insert(heading, rank)?;
-            return Ok(());
-        }
-        let mut of_group = BTreeMap::new(alloc);
-        of_group.insert(heading, rank)?;
         let group = Vec::from_slice(alloc, group)?;
-        self.held.insert(group, of_group)?;
-        Ok(())
+        let heading = Vec::from_slice(alloc, heading)?;
+        let of_group = self.held.entry(group)?.or_insert(BTreeMap::new(alloc));
+        note_first(of_group, heading, rank)
     }
+}
+
+/// Notes the place of a heading in the order of its group, unless one is noted.
+fn note_first(
+    of_group: &mut BTreeMap<Vec<u8>, usize>,
+    heading: Vec<u8>,
+    rank: usize,
+) -> Result<(), AllocError>
+    ensures { OnOk result (NotesFirst heading.items rank of_group.old of_group.new) }
+{
+    of_group.entry(heading)?.or_insert(rank);
+    Ok(())
 }
