@@ -1,4 +1,4 @@
-//! The places of texts in a list.
+//! The places of texts, and of the entries of groups, in a list.
 
 ghost use Rattle.std.specs.Prelude.{◌≡◌, ℕ, List, [], ◌∷◌, ◌++◌, OnOk, length, slice_get, None};
 ghost use Rattle.ags_dict.specs.Index.{value_at, places_at, group_places, rank_at, NotesPlace, NotesRank, NotesFirst};
