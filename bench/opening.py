@@ -6,10 +6,13 @@ usage: bench/opening.py PROGRAM [--kit KIT] [CASE..]
 A register is made by the program with one generated file; the others are that file with another name of the project,
 put in by SQLite.
 CASE is a name in CASES. Where none is given, all up to 100 deposits of 100 kB and 10,000 of 1 kB are measured.
-KIT is a program that opens the database PATH, its only argument, by the kit's own `Connection::open_from`.
-Printed for each: deposits, bytes of them and of the register, seconds (the shortest of some runs) and MB (1,048,576
-bytes) of `list`, and of KIT."""
+KIT is a program that opens the database PATH, its only argument, by the kit's own `Connection::open_from`. Its source
+is kit_open.txt. Outside the repository, in a folder with `git init` and a crates.txt of one line, `kit_open: sqlite`,
+put it in crates/kit_open/src/main.rt; `rt run` in crates/kit_open makes out/kit_open.
+Printed for each: deposits, bytes of them and of the register, and of `list` and of KIT, which run in turn, seconds and
+those of a processor (the shortest of some runs), and MB (1,048,576 bytes)."""
 import os
+import resource
 import sqlite3
 import subprocess
 import sys
@@ -30,6 +33,7 @@ CASES = {
     "flat_4": (files.flat, 4_000_000, 1, 3),
     "deep_4": (files.deep, 4_000_000, 1, 3),
     "hundred": (files.deep, 100_000, 100, 3),
+    "five_hundred": (files.deep, 100_000, 512, 3),
     "many": (files.deep, 1_000, 10_000, 3),
     "deep_64": (files.deep, 1_000_000, 64, 1),
     "flat_64": (files.flat, 1_000_000, 64, 1),
@@ -69,18 +73,27 @@ def multiplied(path, count):
     db.close()
 
 
-def timed(words, folder, runs):
-    """The shortest of some runs in seconds, the greatest resident memory in MB, the status of the last and what it
-    says."""
-    best, most = float("inf"), 0.0
+def spent():
+    """Seconds of a processor, of all commands so far."""
+    used = resource.getrusage(resource.RUSAGE_CHILDREN)
+    return used.ru_utime + used.ru_stime
+
+
+def timed(commands, folder, runs):
+    """Of each command, which run in turn: the shortest of some runs in seconds, and in those of a processor, the
+    greatest resident memory in MB, the status of the last and what it says."""
+    found = [(float("inf"), float("inf"), 0.0, "")] * len(commands)
     for _ in range(runs):
-        with tempfile.NamedTemporaryFile() as note:
-            begun = time.monotonic()
-            run = subprocess.run([*register.noting(note), *words], cwd=folder, stdin=subprocess.DEVNULL,
-                                 capture_output=True, preexec_fn=limit_memory)
-            best = min(best, time.monotonic() - begun)
-            most = max(most, register.megabytes(note))
-    return best, most, run.returncode, run.stderr.decode().strip()
+        for at, words in enumerate(commands):
+            with tempfile.NamedTemporaryFile() as note:
+                begun, before = time.monotonic(), spent()
+                run = subprocess.run([*register.noting(note), *words], cwd=folder, stdin=subprocess.DEVNULL,
+                                     capture_output=True, preexec_fn=limit_memory)
+                taken, used = time.monotonic() - begun, spent() - before
+                said = f"{run.returncode} {run.stderr.decode().strip()}".strip()
+                best, least, most, _ = found[at]
+                found[at] = (min(best, taken), min(least, used), max(most, register.megabytes(note)), said)
+    return found
 
 
 def measured(program, kit, name, under, folder):
@@ -90,12 +103,10 @@ def measured(program, kit, name, under, folder):
     place.put("a", data)
     place.measured(*asking("deposit", "a"))
     multiplied(place.path("register"), count)
-    taken, most, status, said = timed([program, *asking("list")], folder, runs)
-    cells = [name, under, f"{count:,}", f"{count * len(data):,}", f"{place.bytes_held():,}", f"{taken:.2f}",
-             f"{most:.0f}", f"{status} {said}".strip()]
-    if kit:
-        taken, most, status, said = timed([kit, "register"], folder, runs)
-        cells += [f"{taken:.2f}", f"{most:.0f}", f"{status} {said}".strip()]
+    commands = [[program, *asking("list")]] + ([[kit, "register"]] if kit else [])
+    cells = [name, under, f"{count:,}", f"{count * len(data):,}", f"{place.bytes_held():,}"]
+    for taken, used, most, said in timed(commands, folder, runs):
+        cells += [f"{taken:.2f}", f"{used:.2f}", f"{most:.0f}", said]
     print("| " + " | ".join(cells) + " |", flush=True)
 
 
@@ -109,9 +120,10 @@ def main():
     if not words or any(name not in CASES for name in words[1:]):
         sys.exit(__doc__)
     program = os.path.abspath(words[0])
-    head = ["Register", "Dictionary", "Deposits", "Bytes of them", "Bytes of the register", "`list`, s", "MB", "status"]
-    print("| " + " | ".join(head + (["kit, s", "MB", "status"] if kit else [])) + " |")
-    print("|" + "---|" * (len(head) + (3 if kit else 0)))
+    head = ["Register", "Dictionary", "Deposits", "Bytes of them", "Bytes of the register"]
+    for said in ["`list`", "kit"] if kit else ["`list`"]:
+        head += [f"{said}, s", "of a processor", "MB", "status"]
+    print("| " + " | ".join(head) + " |\n|" + "---|" * len(head))
     for name in words[1:] or ALONE:
         for under in dictionaries.ALL:
             with tempfile.TemporaryDirectory(dir=os.environ.get("TMPDIR", "/tmp")) as folder:

@@ -102,10 +102,6 @@ find_first {X} p xs ys all x h e = sym (find-append p xs ys ∙ ap (λ (o : Opti
 pub find_after : {X : Type 0} (p : X → Bool) (xs ys all : List X) → find p xs ≡ None → xs ++ ys ≡ all → find p ys ≡ find p all
 find_after {X} p xs ys all h e = sym (find-append p xs ys ∙ ap (λ (o : Option X). option_or o (find p ys)) h) ∙ ap (find p) e
 
-pub find_both : {X : Type 0} (p q : X → Bool) (xs : List X) → find (λ x. p x && q x) xs ≡ find q (filter p xs)
-find_both p q [] = refl
-find_both p q (x ∷ xs) = elim (cases_Bool (p x)) [ inl t ↦ rw t (rw (find_both p q xs) refl) | inr f ↦ rw f (find_both p q xs) ]
-
 pub any_both : {X : Type 0} (p q : X → Bool) (xs : List X) → list_any (λ x. p x && q x) xs ≡ list_any q (filter p xs)
 any_both p q [] = refl
 any_both p q (x ∷ xs) = elim (cases_Bool (p x)) [ inl t ↦ rw t (rw (any_both p q xs) refl) | inr f ↦ rw f (any_both p q xs) ]

@@ -1,35 +1,37 @@
 -- The place of a heading in a group's order.
 use Rattle.std.proofs.Common.{◌≡◌, ℕ, ◌+◌, ◌<◌, ◌≤◌, Bool, false, cond, not, eqb, ltb, List, [], ◌∷◌, ◌++◌, length, map, Option, Some, None, position, slice_get, refl, sym, ap, ◌∙◌, inl, inr, arith, add-zero, ◌&&◌}
-use Rattle.std.specs.List.{find, filter, position_or_len}
-use Rattle.std.specs.Option.{option_and_then, option_map, option_or}
+use Rattle.std.specs.List.{filter, list_any, position_or_len}
+use Rattle.std.specs.Option.{option_map, option_or, is_some}
 use Rattle.std.specs.Str.{bytes_eq}
 use Rattle.std.proofs.lemmas.Bool.{cases_Bool, cases_lt, lt-ltb, le-ltb, ne_eqb, eq-eqb}
 use Rattle.std.proofs.lemmas.List.{length-map, length-append, map-append, append-nil}
 use Rattle.std.proofs.lemmas.List.Elements.{filter-append}
 use Rattle.std.proofs.lemmas.List.Sums.{prefix_len-le-length}
 use Rattle.std.proofs.lemmas.List.Folds.{position_or_len_push, prefix_len-append, find_at}
-use Rattle.std.proofs.lemmas.Option.{slice_get_past}
+use Rattle.std.proofs.lemmas.Option.{slice_get_cases}
 use Rattle.ags_rows.specs.Contents.{place_in}
 use Rattle.ags_dict.specs.declared.entries.HeadingEntry.{HeadingEntry}
 use Rattle.ags_dict.specs.Index.{of_group, is_named}
 use Rattle.ags_dict.proofs.Held.{same_bytes}
+use Rattle.ags_dict.proofs.Found.{found_any}
 
 place_map : {X Y : Type 0} (f : X → Y) (p : Y → Bool) (xs : List X) → position_or_len p (map f xs) ≡ position_or_len (λ x. p (f x)) xs
 place_map f p [] = refl
 place_map f p (x ∷ xs) = rw (place_map f p xs) refl
 
--- the first that passes is found by its place
-position_leads : {X : Type 0} (p : X → Bool) (xs : List X) → option_and_then (slice_get xs) (position p xs) ≡ find p xs
-position_leads p xs =
+-- there is a place where one passes
+position_any : {X : Type 0} (p : X → Bool) (xs : List X) → is_some (position p xs) ≡ list_any p xs
+position_any p xs =
     let n = position_or_len p xs in
-    elim (cases_lt n (length xs)) [
-      | inl lt ↦ ap (λ (b : Bool). option_and_then (slice_get xs) (cond b (Some n) None)) (lt-ltb n (length xs) lt) ∙ sym (find_at p xs)
-      | inr le ↦ ap (λ (b : Bool). option_and_then (slice_get xs) (cond b (Some n) None)) (le-ltb n (length xs) le) ∙ sym (slice_get_past xs n le) ∙ sym (find_at p xs)
+    let found : is_some (slice_get xs n) ≡ list_any p xs = ap is_some (sym (find_at p xs)) ∙ found_any p xs in
+    elim (slice_get_cases xs n).1 [
+      | inl at ↦ ap (λ (b : Bool). is_some (cond b (Some n) None)) (lt-ltb n (length xs) at.1) ∙ sym (ap is_some at.2) ∙ found
+      | inr past ↦ ap (λ (b : Bool). is_some (cond b (Some n) None)) (le-ltb n (length xs) past.0) ∙ sym (ap is_some past.1) ∙ found
     ]
 
-pub rank_leads : (entries : List HeadingEntry) (heading : List ℕ) → option_and_then (slice_get entries) (place_in (map (λ (e : HeadingEntry). e.heading) entries) heading) ≡ find (is_named heading) entries
-rank_leads entries heading =
-    rw (place_map (λ (e : HeadingEntry). e.heading) (λ h. bytes_eq h heading) entries, length-map entries (λ (e : HeadingEntry). e.heading)) (position_leads (is_named heading) entries)
+pub rank_any : (entries : List HeadingEntry) (heading : List ℕ) → is_some (place_in (map (λ (e : HeadingEntry). e.heading) entries) heading) ≡ list_any (is_named heading) entries
+rank_any entries heading =
+    rw (place_map (λ (e : HeadingEntry). e.heading) (λ h. bytes_eq h heading) entries, length-map entries (λ (e : HeadingEntry). e.heading)) (position_any (is_named heading) entries)
 
 -- the place n of a list of m items, if it has one
 abbrev at : ℕ → ℕ → Option ℕ
@@ -126,7 +128,7 @@ place_after group heading xs ys all earlier own none count at e =
 pub rank_push : (headings : List (List ℕ)) (heading q : List ℕ) → place_in (headings ++ heading ∷ []) q ≡ option_or (place_in headings q) (cond (bytes_eq heading q) (Some (length headings)) None)
 rank_push headings heading q = position_push (λ h. bytes_eq h q) headings heading
 
-or_none : (o : Option ℕ) → option_or o None ≡ o
+pub or_none : (o : Option ℕ) → option_or o None ≡ o
 or_none None = refl
 or_none (Some n) = refl
 

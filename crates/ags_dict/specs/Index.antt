@@ -12,7 +12,7 @@ use Rattle.ags_rows.specs.Contents.{place_in}
 use Rattle.ags_dict.specs.declared.entries.GroupEntry.{GroupEntry}
 use Rattle.ags_dict.specs.declared.entries.HeadingEntry.{HeadingEntry}
 use Rattle.ags_dict.specs.declared.places.PlacesByText.{PlacesByText}
-use Rattle.ags_dict.specs.declared.places.Ranks.{Ranks}
+use Rattle.ags_dict.specs.declared.places.PlacesByGroup.{PlacesByGroup}
 
 -- what a map has at a text
 abbrev pub value_at : {X : Type 0} → BTreeMap (Vec ℕ Global) X → List ℕ → Option X
@@ -22,24 +22,28 @@ value_at held text = get_by (λ k. slice_cmp nat_cmp text k.items) held
 abbrev pub places_at : PlacesByText → List ℕ → List ℕ
 places_at places text = option_map_or (λ v. v.items) (value_at places.held text) []
 
+-- the places that are kept for a group's entries
+abbrev pub group_places : PlacesByGroup → List ℕ → List ℕ
+group_places places group = option_map_or (λ g. g.places.items) (value_at places.held group) []
+
 -- the place in a group's order that is kept for a heading
-abbrev pub rank_at : Ranks → List ℕ → List ℕ → Option ℕ
-rank_at ranks group heading = option_and_then (λ of_group. value_at of_group heading) (value_at ranks.held group)
+abbrev pub rank_at : PlacesByGroup → List ℕ → List ℕ → Option ℕ
+rank_at places group heading = option_and_then (λ g. value_at g.ranks heading) (value_at places.held group)
 
 -- the place is kept for the text, after those kept before, and nothing changes for other texts
-abbrev pub NotesPlace : List ℕ → ℕ → PlacesByText → PlacesByText → Type 0
-NotesPlace text place old new = (other : List ℕ) → places_at new other
-    ≡ (if bytes_eq text other then places_at old other ++ place ∷ [] else places_at old other)
+abbrev pub NotesPlace : List ℕ → ℕ → (List ℕ → List ℕ) → (List ℕ → List ℕ) → Type 0
+NotesPlace text place old new =
+    (other : List ℕ) → new other ≡ (if bytes_eq text other then old other ++ place ∷ [] else old other)
 
 -- the heading gets this place in the order of its group unless it has one, and other headings keep theirs
-abbrev pub NotesRank : List ℕ → List ℕ → ℕ → Ranks → Ranks → Type 0
+abbrev pub NotesRank : List ℕ → List ℕ → ℕ → PlacesByGroup → PlacesByGroup → Type 0
 NotesRank group heading rank old new = (g h : List ℕ) → rank_at new g h
     ≡ option_or (rank_at old g h) (if bytes_eq group g && bytes_eq heading h then Some rank else None)
 
--- the heading gets this place in the order of its group, whatever it had, and other headings keep theirs
-abbrev pub PutsRank : List ℕ → List ℕ → ℕ → Ranks → Ranks → Type 0
-PutsRank group heading rank old new = (g h : List ℕ) → rank_at new g h
-    ≡ (if bytes_eq group g && bytes_eq heading h then Some rank else rank_at old g h)
+-- the same in the order of one group
+abbrev pub NotesFirst : List ℕ → ℕ → BTreeMap (Vec ℕ Global) ℕ → BTreeMap (Vec ℕ Global) ℕ → Type 0
+NotesFirst heading rank old new = (h : List ℕ) → value_at new h
+    ≡ option_or (value_at old h) (if bytes_eq heading h then Some rank else None)
 
 -- these are the places of the items that pass the test, in their order
 abbrev pub ArePlaces : {X : Type 0} → (X → Bool) → List X → List ℕ → Type 0
@@ -68,9 +72,9 @@ FindsGroups entries by_name = (group : List ℕ) → ArePlaces (is_for group) en
 
 -- a group's entries are found by its name, those of a heading by its, and a heading's place in the order of its group
 -- by both
-pub record FindsHeadings (entries : List HeadingEntry) (by_group by_heading : PlacesByText) (ranks : Ranks)
+pub record FindsHeadings (entries : List HeadingEntry) (by_group : PlacesByGroup) (by_heading : PlacesByText)
     : Type 0 where
-  pub groups : (group : List ℕ) → ArePlaces (of_group group) entries (places_at by_group group)
+  pub groups : (group : List ℕ) → ArePlaces (of_group group) entries (group_places by_group group)
   pub headings : (heading : List ℕ) → ArePlaces (is_named heading) entries (places_at by_heading heading)
-  pub orders : (group heading : List ℕ) → rank_at ranks group heading
+  pub orders : (group heading : List ℕ) → rank_at by_group group heading
       ≡ place_in (map (λ e. e.heading) (filter (of_group group) entries)) heading

@@ -1,7 +1,7 @@
 //! The entries for headings of groups.
 
-ghost use Rattle.std.specs.Prelude.{◌≡◌, [], ◌∷◌, IfOk, length, option_copied, map, not, ◌&&◌};
-ghost use Rattle.std.specs.List.{filter, find, list_any};
+ghost use Rattle.std.specs.Prelude.{◌≡◌, [], ◌∷◌, IfOk, length, map, not, ◌&&◌};
+ghost use Rattle.std.specs.List.{filter, list_any};
 ghost use Rattle.ags_rows.specs.Contents.{place_in};
 ghost use Rattle.ags_dict.specs.Entries.{same_heading, with_new};
 ghost use Rattle.ags_dict.specs.Index.{of_group, is_named, is_heading};
@@ -74,14 +74,11 @@ impl HeadingEntries {
         Some(earlier + place)
     }
 
-    /// The entry for a heading of a group.
-    pub(crate) fn find(&self, group: &[u8], heading: &[u8]) -> Option<&HeadingEntry>
-        ensures { option_copied result ≡ find (is_heading group.now heading.now) self.now }
+    /// Whether there is an entry for a heading of a group.
+    fn has(&self, group: &[u8], heading: &[u8]) -> bool
+        ensures { result ≡ list_any (is_heading group.now heading.now) self.now }
     {
-        match self.shared.find(group, heading) {
-            Some(entry) => Some(entry),
-            None => self.own.find(group, heading),
-        }
+        self.shared.has(group, heading) || self.own.has(group, heading)
     }
 
     /// Whether another group has a heading of this name.
@@ -99,8 +96,7 @@ impl HeadingEntries {
     ) -> Result<HeadingEntries, AllocError>
         ensures { IfOk result (λ entries. entries ≡ with_new same_heading self (entry ∷ [])) }
     {
-        let group = entry.group.as_slice();
-        if self.find(group, entry.heading.as_slice()).is_some() {
+        if self.has(entry.group.as_slice(), entry.heading.as_slice()) {
             return Ok(self);
         }
         let HeadingEntries { shared, own } = self;

@@ -1,7 +1,7 @@
-//! The places of texts in a list.
+//! The places of texts, and of the entries of groups, in a list.
 
-ghost use Rattle.std.specs.Prelude.{◌≡◌, ℕ, List, [], OnOk, slice_get, None};
-ghost use Rattle.ags_dict.specs.Index.{places_at, rank_at, NotesPlace, NotesRank, PutsRank};
+ghost use Rattle.std.specs.Prelude.{◌≡◌, ℕ, List, [], ◌∷◌, ◌++◌, OnOk, length, slice_get, None};
+ghost use Rattle.ags_dict.specs.Index.{value_at, places_at, group_places, rank_at, NotesPlace, NotesRank, NotesFirst};
 
 use std::alloc::{AllocError, Global};
 use std::collections::BTreeMap;
@@ -46,77 +46,96 @@ impl PlacesByText {
         text: &[u8],
         place: usize,
     ) -> Result<(), AllocError>
-        ensures { OnOk result (NotesPlace text.now place self.old self.new) }
+        ensures { OnOk result (NotesPlace text.now place (places_at self.old) (places_at self.new)) }
     {
-        if let Some(places) = self.held.get_mut(text) {
-            places.push(place)?;
-            return Ok(());
-        }
-        let places = vec![in alloc; place]?;
         let text = Vec::from_slice(alloc, text)?;
-        self.held.insert(text, places)?;
+        let places = self.held.entry(text)?.or_insert(Vec::new(alloc));
+        places.push(place)?;
         Ok(())
     }
 }
 
-/// For each heading of a group, its place in the group's order.
+/// For each group, where its entries stand.
 #[derive(Drop)]
-pub(crate) struct Ranks {
-    pub(crate) held: BTreeMap<Vec<u8>, BTreeMap<Vec<u8>, usize>>,
+pub(crate) struct PlacesByGroup {
+    pub(crate) held: BTreeMap<Vec<u8>, OfGroup>,
 }
 
-impl Ranks {
-    /// No headings.
-    pub(crate) fn new(alloc: Global) -> Ranks
-        ensures { (group heading : List ℕ) → rank_at result group heading ≡ None }
+impl PlacesByGroup {
+    /// No entries.
+    pub(crate) fn new(alloc: Global) -> PlacesByGroup
+        ensures places { (group : List ℕ) → group_places result group ≡ [] }
+        ensures ranks { (group heading : List ℕ) → rank_at result group heading ≡ None }
     {
-        Ranks {
+        PlacesByGroup {
             held: BTreeMap::new(alloc),
         }
     }
 
-    /// The place of a heading in its group's order.
-    pub(crate) fn of(&self, group: &[u8], heading: &[u8]) -> Option<usize>
-        ensures { result ≡ rank_at self.now group.now heading.now }
+    /// The places of the group's entries.
+    pub(crate) fn of(&self, group: &[u8]) -> &[usize]
+        ensures { result.now ≡ group_places self.now group.now }
     {
-        self.held.get(group)?.get(heading).copied()
+        match self.held.get(group) {
+            Some(of_group) => of_group.places.as_slice(),
+            None => &[],
+        }
     }
 
-    /// Notes the place of a heading in its group's order, unless one is noted.
+    /// The place of a heading in its group's order.
+    pub(crate) fn rank(&self, group: &[u8], heading: &[u8]) -> Option<usize>
+        ensures { result ≡ rank_at self.now group.now heading.now }
+    {
+        self.held.get(group)?.ranks.get(heading).copied()
+    }
+
+    /// Notes the place of one more entry, and that of its heading in the group's order, unless one is noted.
     pub(crate) fn note(
         &mut self,
         alloc: Global,
         group: &[u8],
         heading: &[u8],
-        rank: usize,
+        place: usize,
     ) -> Result<(), AllocError>
-        ensures { OnOk result (NotesRank group.now heading.now rank self.old self.new) }
+        ensures places { OnOk result (NotesPlace group.now place (group_places self.old) (group_places self.new)) }
+        ensures ranks { OnOk result (NotesRank group.now heading.now (length (group_places self.old group.now))
+            self.old self.new) }
     {
-        if self.of(group, heading).is_none() {
-            self.put(alloc, group, heading, rank)?;
+        let group = Vec::from_slice(alloc, group)?;
+        let of_group = self.held.entry(group)?.or_insert(OfGroup::new(alloc));
+        of_group.note(alloc, heading, place)
+    }
+}
+
+/// The places of a group's entries in a list, rising, and for each heading its place in the group's order.
+#[derive(Drop)]
+pub(crate) struct OfGroup {
+    pub(crate) places: Vec<usize>,
+    pub(crate) ranks: BTreeMap<Vec<u8>, usize>,
+}
+
+impl OfGroup {
+    /// No entries.
+    fn new(alloc: Global) -> OfGroup
+        ensures places { result.places.items ≡ [] }
+        ensures ranks { (heading : List ℕ) → value_at result.ranks heading ≡ None }
+    {
+        OfGroup {
+            places: Vec::new(alloc),
+            ranks: BTreeMap::new(alloc),
         }
-        Ok(())
     }
 
-    /// Puts the place of a heading in its group's order.
-    fn put(
-        &mut self,
-        alloc: Global,
-        group: &[u8],
-        heading: &[u8],
-        rank: usize,
-    ) -> Result<(), AllocError>
-        ensures { OnOk result (PutsRank group.now heading.now rank self.old self.new) }
+    /// Notes the place of one more entry, and that of its heading in the order, unless one is noted.
+    fn note(&mut self, alloc: Global, heading: &[u8], place: usize) -> Result<(), AllocError>
+        ensures places { OnOk result (self.new.places.items ≡ self.old.places.items ++ place ∷ []) }
+        ensures ranks { OnOk result (NotesFirst heading.now (length self.old.places.items)
+            self.old.ranks self.new.ranks) }
     {
+        let rank = self.places.len();
+        self.places.push(place)?;
         let heading = Vec::from_slice(alloc, heading)?;
-        if let Some(of_group) = self.held.get_mut(group) {
-            of_group.insert(heading, rank)?;
-            return Ok(());
-        }
-        let mut of_group = BTreeMap::new(alloc);
-        of_group.insert(heading, rank)?;
-        let group = Vec::from_slice(alloc, group)?;
-        self.held.insert(group, of_group)?;
+        self.ranks.entry(heading)?.or_insert(rank);
         Ok(())
     }
 }

@@ -1,12 +1,12 @@
 //! Entries for headings of groups, found by group, by heading, and by both.
 
-ghost use Rattle.std.specs.Prelude.{◌≡◌, ◌<◌, ◌^◌, [], ◌∷◌, ◌++◌, IfOk, IfSome, OnOk, length, option_copied, slice_get, map, not, ◌&&◌};
-ghost use Rattle.std.specs.List.{filter, find, list_any};
+ghost use Rattle.std.specs.Prelude.{◌≡◌, ◌<◌, ◌^◌, [], ◌∷◌, ◌++◌, IfOk, IfSome, length, option_copied, slice_get, map, not, ◌&&◌};
+ghost use Rattle.std.specs.List.{filter, list_any};
 ghost use Rattle.ags_rows.specs.Contents.{place_in};
-ghost use Rattle.ags_dict.specs.Index.{places_at, NotesPlace, NotesRank, of_group, is_named, is_of_other, is_heading};
+ghost use Rattle.ags_dict.specs.Index.{of_group, is_named, is_of_other, is_heading};
 
 use crate::entries::HeadingEntry;
-use crate::places::{PlacesByText, Ranks};
+use crate::places::{PlacesByGroup, PlacesByText};
 use std::alloc::{AllocError, Global};
 use std::marker::Model;
 
@@ -14,9 +14,8 @@ use std::marker::Model;
 #[derive(Drop)]
 pub(crate) struct IndexedHeadings {
     entries: Vec<HeadingEntry>,
-    by_group: PlacesByText,
+    by_group: PlacesByGroup,
     by_heading: PlacesByText,
-    ranks: Ranks,
 }
 
 impl Model for IndexedHeadings {
@@ -29,7 +28,7 @@ impl Model for IndexedHeadings {
 
     ghost view = { λ h. h.entries.items };
 
-    ghost invariant = { λ h. FindsHeadings h.entries.items h.by_group h.by_heading h.ranks };
+    ghost invariant = { λ h. FindsHeadings h.entries.items h.by_group h.by_heading };
 }
 
 impl IndexedHeadings {
@@ -39,9 +38,8 @@ impl IndexedHeadings {
     {
         IndexedHeadings {
             entries: Vec::new(alloc),
-            by_group: PlacesByText::new(alloc),
+            by_group: PlacesByGroup::new(alloc),
             by_heading: PlacesByText::new(alloc),
-            ranks: Ranks::new(alloc),
         }
     }
 
@@ -90,15 +88,14 @@ impl IndexedHeadings {
         ensures place { result ≡ place_in (map (λ e. e.heading) (filter (of_group group.now) self.now)) heading.now }
         ensures few { IfSome result (λ place. place < 2 ^ 63) }
     {
-        self.ranks.of(group, heading)
+        self.by_group.rank(group, heading)
     }
 
-    /// The entry for a heading of a group.
-    pub(crate) fn find(&self, group: &[u8], heading: &[u8]) -> Option<&HeadingEntry>
-        ensures { option_copied result ≡ find (is_heading group.now heading.now) self.now }
+    /// Whether there is an entry for a heading of a group.
+    pub(crate) fn has(&self, group: &[u8], heading: &[u8]) -> bool
+        ensures { result ≡ list_any (is_heading group.now heading.now) self.now }
     {
-        let rank = self.ranks.of(group, heading)?;
-        self.at(self.by_group.nth(group, rank)?)
+        self.by_group.rank(group, heading).is_some()
     }
 
     /// Whether the entry at a place is for another group.
@@ -135,23 +132,17 @@ impl IndexedHeadings {
             mut entries,
             mut by_group,
             mut by_heading,
-            mut ranks,
         } = self;
-        note_place(
-            alloc,
-            entry.group.as_slice(),
-            entry.heading.as_slice(),
-            entries.len(),
-            &mut by_group,
-            &mut by_heading,
-            &mut ranks,
-        )?;
+        let group = entry.group.as_slice();
+        let heading = entry.heading.as_slice();
+        let place = entries.len();
+        by_group.note(alloc, group, heading, place)?;
+        by_heading.note(alloc, heading, place)?;
         entries.push(entry)?;
         Ok(IndexedHeadings {
             entries,
             by_group,
             by_heading,
-            ranks,
         })
     }
 
@@ -168,24 +159,4 @@ impl IndexedHeadings {
         }
         Ok(copied)
     }
-}
-
-/// Notes the place of an entry for a heading of a group.
-fn note_place(
-    alloc: Global,
-    group: &[u8],
-    heading: &[u8],
-    place: usize,
-    by_group: &mut PlacesByText,
-    by_heading: &mut PlacesByText,
-    ranks: &mut Ranks,
-) -> Result<(), AllocError>
-    ensures groups { OnOk result (NotesPlace group.now place by_group.old by_group.new) }
-    ensures headings { OnOk result (NotesPlace heading.now place by_heading.old by_heading.new) }
-    ensures orders { OnOk result (NotesRank group.now heading.now (length (places_at by_group.old group.now))
-        ranks.old ranks.new) }
-{
-    ranks.note(alloc, group, heading, by_group.of(group).len())?;
-    by_group.note(alloc, group, place)?;
-    by_heading.note(alloc, heading, place)
 }

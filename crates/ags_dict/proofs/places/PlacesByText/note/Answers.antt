@@ -1,48 +1,30 @@
-use Rattle.std.proofs.Common.{◌≡◌, ℕ, List, [], ◌∷◌, ◌++◌, Option, Some, None, cond, Bool, rules, sym, ap, ◌∙◌, inl, inr, Vec, Global}
-use Rattle.std.specs.Option.{option_map_or, option_copied_mut}
-use Rattle.std.specs.Str.{bytes_eq}
-use Rattle.std.specs.BTreeMap.{BTreeMap}
-use Rattle.std.proofs.lemmas.Bool.{cases_Bool}
-use Rattle.ags_dict.specs.Index.{places_at, value_at}
-use Rattle.ags_dict.proofs.Held.{held_updates, same_bytes}
+use Rattle.std.proofs.Common.{◌≡◌, ℕ, List, [], ◌∷◌, ◌++◌, Option, Some, None, unwrap_or, rules, refl, ap, ◌∙◌, Vec, Global}
+use Rattle.std.specs.Option.{option_map_or}
+use Rattle.std.specs.BTreeMap.Entry.{map_with_value}
+use Rattle.ags_dict.specs.Index.{places_at, value_at, NotesPlace}
+use Rattle.ags_dict.proofs.Held.{held_noted, place_noted}
 use Rattle.ags_dict.proofs.places.PlacesByText.note.Goals as goal
 
 abbrev items : Option (Vec ℕ Global) → List ℕ
 items o = option_map_or (λ v. v.items) o []
 
--- a text that has places
-pub returns-in-Some : goal.returns-in-Some
-returns-in-Some c =
-    λ other.
-    let text = c.args.text.now in
-    let old = c.args.self.now.held in
-    let pushed = c.push.new.self in
-    let was : value_at old text ≡ Some c.in-Some.places.now = sym c.get_mut.ensures.value ∙ ap option_copied_mut c.in-Some.is in
-    let after : pushed.items ≡ places_at c.args.self.now text ++ c.args.place ∷ [] =
-    c.in_ok-push.ensures.items ∙ ap (λ (o : Option (Vec ℕ Global)). items o ++ c.args.place ∷ []) (sym was) in
-    let held : value_at (c.get_mut.follows.lender pushed) other ≡ cond (bytes_eq text other) (Some pushed) (value_at old other) =
-    held_updates text old (c.get_mut.follows.lender pushed) (Some pushed) ((c.get_mut.follows.holds pushed).3 (search rules)) other in
-    elim (cases_Bool (bytes_eq text other)) [
-      | inl y ↦ rw y (ap items (held ∙ ap (λ (b : Bool). cond b (Some pushed) (value_at old other)) y) ∙ after ∙ ap (λ (l : List ℕ). places_at c.args.self.now l ++ c.args.place ∷ []) (same_bytes text other y))
-      | inr n ↦ rw n (ap items (held ∙ ap (λ (b : Bool). cond b (Some pushed) (value_at old other)) n))
-    ]
+-- the places that are kept, or none
+items_or : (o : Option (Vec ℕ Global)) (none : Vec ℕ Global) → none.items ≡ [] → (unwrap_or o none).items ≡ items o
+items_or None none e = e
+items_or (Some v) none e = refl
 
--- a text that has none
 pub returns : goal.returns
 returns c =
-    λ other.
     let text = c.args.text.now in
-    let old = c.args.self.now.held in
-    let kept = c.get_mut.follows.lender-at-none in
-    let places = c.in_ok-places.places in
-    let none : value_at old text ≡ None = sym c.get_mut.ensures.value ∙ ap option_copied_mut c.in_default.is in
-    let after : places.items ≡ places_at c.args.self.now text ++ c.args.place ∷ [] =
-    c.in_ok-places.ensures.items ∙ ap (λ (o : Option (Vec ℕ Global)). items o ++ c.args.place ∷ []) (sym none) in
-    let held : value_at c.insert.new.self other ≡ cond (bytes_eq text other) (Some places) (value_at old other) =
-    held_updates _ kept c.insert.new.self (Some places) c.in_ok-insert.ensures.updates other
-    ∙ ap (λ (l : List ℕ). cond (bytes_eq l other) (Some places) (value_at kept other)) c.in_ok-text.ensures.items
-    ∙ ap (λ (m : BTreeMap (Vec ℕ Global) (Vec ℕ Global)). cond (bytes_eq text other) (Some places) (value_at m other)) c.get_mut.follows.holds-at-none in
-    elim (cases_Bool (bytes_eq text other)) [
-      | inl y ↦ rw y (ap items (held ∙ ap (λ (b : Bool). cond b (Some places) (value_at old other)) y) ∙ after ∙ ap (λ (l : List ℕ). places_at c.args.self.now l ++ c.args.place ∷ []) (same_bytes text other y))
-      | inr n ↦ rw n (ap items (held ∙ ap (λ (b : Bool). cond b (Some places) (value_at old other)) n))
-    ]
+    let old = c.args.self.now in
+    let pushed = c.push.new.self in
+    let new = map_with_value c.in_ok-self.field-0 pushed in
+    let before : c.or_insert-places.result.now.items ≡ places_at old text =
+    ap (λ (v : Vec ℕ Global). v.items) c.or_insert-places.ensures.value
+    ∙ ap (λ (o : Option (Vec ℕ Global)). (unwrap_or o c.new.result).items) (c.in_ok-self.ensures.value ∙ ap (value_at old.held) c.in_ok-text.ensures.items)
+    ∙ items_or (value_at old.held text) c.new.result c.new.ensures.items in
+    let is : NotesPlace text c.args.place (places_at old) (places_at (record { held = new })) =
+    place_noted items text c.args.place old.held new pushed
+    (held_noted c.in_ok-text.text text old.held new pushed c.in_ok-text.ensures.items (c.in_ok-self.ensures.update.0 pushed))
+    (c.in_ok-push.ensures.items ∙ ap (λ (l : List ℕ). l ++ c.args.place ∷ []) before) in
+    λ other. let here = is other in search rules

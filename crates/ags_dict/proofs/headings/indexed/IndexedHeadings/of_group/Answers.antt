@@ -3,7 +3,7 @@ use Rattle.std.specs.List.{filter, filter_map}
 use Rattle.std.specs.Option.{option_to_list}
 use Rattle.std.proofs.lemmas.List.{append-nil, take_all}
 use Rattle.ags_dict.specs.declared.entries.HeadingEntry.{HeadingEntry}
-use Rattle.ags_dict.specs.Index.{places_at, of_group}
+use Rattle.ags_dict.specs.Index.{group_places, of_group}
 use Rattle.ags_dict.proofs.Found.{leads_more, place_all}
 use Rattle.ags_dict.proofs.headings.indexed.IndexedHeadings.of_group.Goals as goal
 use Rattle.ags_dict.proofs.headings.indexed.IndexedHeadings.of_group.Goals.{in-Some+in_ok-push, in_default}
@@ -26,7 +26,7 @@ loop-place-preserved c =
 pub returns : goal.returns
 returns c =
     let group = c.args.group.now in
-    let places = places_at c.self.inside.by_group group in
+    let places = group_places c.self.inside.by_group group in
     c.loop-place.invariant ∙ ap (filter_map (slice_get c.args.self.now)) (take_all c.loop-place.place-index c.of-place-items.result.now c.loop-place-test.false ∙ c.of-place-items.ensures)
     ∙ ap (λ (l : List HeadingEntry). filter_map (slice_get l) places) (sym c.self.view_is)
     ∙ place_all (of_group group) c.self.inside.entries.items places (c.self.invariant.groups group) ∙ ap (filter (of_group group)) c.self.view_is
