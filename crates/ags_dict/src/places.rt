@@ -55,7 +55,7 @@ impl PlacesByText {
     }
 }
 
-/// For each group, where its entries stand.
+/// For each group, where its entries are.
 #[derive(Drop)]
 pub(crate) struct PlacesByGroup {
     pub(crate) held: BTreeMap<Vec<u8>, OfGroup>,
