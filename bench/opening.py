@@ -9,8 +9,8 @@ CASE is a name in CASES. Where none is given, all up to 100 deposits of 100 kB a
 KIT is a program that opens the database PATH, its only argument, by the kit's own `Connection::open_from`. Its source
 is kit_open.txt. Outside the repository, in a folder with `git init` and a crates.txt of one line, `kit_open: sqlite`,
 put it in crates/kit_open/src/main.rt; `rt run` in crates/kit_open makes out/kit_open.
-Printed for each: deposits, bytes of them and of the register, and of `list` and of KIT, which run one after the other, seconds and
-those of a processor (the shortest of some runs), and MB (1,048,576 bytes)."""
+Printed for each: deposits, bytes of them and of the register; of `list` and of KIT, which run one after the other, the
+seconds and those of a processor (the shortest of some runs), and MB (1,048,576 bytes)."""
 import os
 import resource
 import sqlite3
@@ -80,8 +80,8 @@ def spent():
 
 
 def timed(commands, folder, runs):
-    """Of each command, which run one after the other: the shortest of some runs in seconds, and in those of a processor, the
-    greatest resident memory in MB, the status of the last and what it says."""
+    """Of each command, which run one after the other: the shortest of some runs in seconds, and in those of a processor,
+    the greatest resident memory in MB, the status of the last and what it says."""
     found = [(float("inf"), float("inf"), 0.0, "")] * len(commands)
     for _ in range(runs):
         for at, words in enumerate(commands):
