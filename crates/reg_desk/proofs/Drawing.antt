@@ -148,6 +148,19 @@ seen_drawn terms caller project groups day d head file text is drawn seen =
     (text, (file_of file, clean_of terms.dictionary d.sent file is, subst (λ (l : Look). IsExtractText l (file_of file) groups text) look drawn), refl))
     (λ e. cc) seen
 
+-- it is withdrawn, or of another project
+pub other_unseen : (terms : Terms) (caller : Caller) (project : List ℕ) (day : ℤ) (d : Deposit) (head : KeptHead) → IsHeadOf d head
+    → (head.withdrawn ≡ true) ⊎ (bytes_eq head.project project ≡ false) → IsSeenHead terms caller project day d None
+other_unseen terms caller project day d head of_head other =
+    unseen (bytes_eq d.sent.project project) _ _ _ (λ same seen. elim other [
+      | inl marked ↦ true≢false (sym marked ∙ of_head.withdrawn ∙ seen.0)
+      | inr another ↦ true≢false (sym same ∙ ap (λ (p : List ℕ). bytes_eq p project) (sym of_head.project) ∙ another)
+    ]) refl
+  where
+    unseen : (t : Bool) (Seen Then Else : Type 0) → (t ≡ true → Seen → ⊥) → Else → MatchBool t ((Seen × Then) ⊎ ((Seen → ⊥) × Else)) Else
+    unseen true Seen Then Else never is = inr (never refl, is)
+    unseen false Seen Then Else never is = is
+
 -- ---- the answers to an extract
 
 -- what is drawn is answered by a text, or by Unknown
@@ -246,19 +259,6 @@ kept_lives keep old number (Err errors.Store) within fit broken =
     absurd (∥∥₁_elim (fit_at (keep.dictionary old) (sents (keep.deposits old)) (number - 1) d.0.sent fit sent)
     (Prim.hlevel props)
     (λ (f : (file : CheckedFile) × IsFileOf (keep.dictionary old) d.0.sent file). broken refl d.0.sent f.0 sent f.1))
-
--- it is withdrawn, or of another project
-pub other_unseen : (terms : Terms) (caller : Caller) (project : List ℕ) (day : ℤ) (d : Deposit) (head : KeptHead) → IsHeadOf d head
-    → (head.withdrawn ≡ true) ⊎ (bytes_eq head.project project ≡ false) → IsSeenHead terms caller project day d None
-other_unseen terms caller project day d head of_head other =
-    unseen (bytes_eq d.sent.project project) _ _ _ (λ same seen. elim other [
-      | inl marked ↦ true≢false (sym marked ∙ of_head.withdrawn ∙ seen.0)
-      | inr another ↦ true≢false (sym same ∙ ap (λ (p : List ℕ). bytes_eq p project) (sym of_head.project) ∙ another)
-    ]) refl
-  where
-    unseen : (t : Bool) (Seen Then Else : Type 0) → (t ≡ true → Seen → ⊥) → Else → MatchBool t ((Seen × Then) ⊎ ((Seen → ⊥) × Else)) Else
-    unseen true Seen Then Else never is = inr (never refl, is)
-    unseen false Seen Then Else never is = is
 
 -- the project's, and not withdrawn: whether its row of PROJ is shown, where that was read after its head
 module _ {K : Type 0} (keep : Ghosts K) (rules : List Rule) (old mid : K) (caller : Caller) (project : List ℕ) (number : ℕ) (day : ℤ) (head : KeptHead) (look : Look) (seen : Bool)

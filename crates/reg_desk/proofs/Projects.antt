@@ -17,7 +17,7 @@ use Rattle.ags_rows.specs.Collecting.{At}
 use Rattle.ags_links.specs.DataRows.{DataRow, IsRowOfGroup, data_rows, row_in, rows_before}
 use Rattle.ags_links.specs.Steps.{StepAt}
 use Rattle.ags_links.specs.Walks.{HasStep, IsWalk, Reaches}
-use Rattle.ags_links.proofs.Lemmas.{one_at, at_map, row_of_group, reach_itself}
+use Rattle.ags_links.proofs.Lemmas.{graphs_walk_as_files, one_at, at_map, row_of_group, reach_itself}
 use Rattle.ags_check.specs.Findings.{CheckedFile, IsClean, file_of}
 use Rattle.reg_store.specs.Deposit.{Deposit, sents}
 use Rattle.reg_store.specs.Fit.{IsFileOf, group_rows, kept_row, kept_rows}
@@ -40,11 +40,6 @@ headed_law look h may seen row is =
     let fields : codes "GROUP" ∷ first.group ∷ [] ≡ codes "GROUP" ∷ row.group ∷ [] = same_fields h.group (codes "GROUP" ∷ first.group ∷ []) (codes "GROUP" ∷ row.group ∷ []) seen.1.above is.above in
     let group : first.group ≡ row.group = cc in
     may_law look (headed_line first.group h) may (first, seen.1, seen.2) row (record { group = group; above = is.above; headings = is.headings; fields = is.fields; width = is.width })
-
--- steps of a larger relation
-walk_same : (Step Other : ℕ → ℕ → Type 0) → ((r s : ℕ) → Step r s → Other r s) → (n : ℕ) (walk : List ℕ) (m : ℕ) → IsWalk Step n walk m → IsWalk Other n walk m
-walk_same Step Other wider n [] m same = same
-walk_same Step Other wider n (t ∷ walk) m steps = (wider n t steps.0, walk_same Step Other wider t walk m steps.1)
 
 -- what is first in a list is in it
 first_item : (found : List HeadedRow) → 0 < length found → (h : HeadedRow) × Contains found h
@@ -178,13 +173,6 @@ module _ (look : Look) (file : CheckedFile) (clean : IsClean file) (found : List
       let there = row_of_headed headed rows at.0 first zip at.3 in
       (there.0, subst (λ (k : ℕ). At rows k there.0) (sym (at.1 ∙ omega arith)) there.1, (project_name first there.0 there.2).0 (first_project 0 n first headed is))
 
-  -- the graph is walked as the file
-  reach_graph : (n m : ℕ) → Reaches (StepAt (file_of file)) n m ↔ Reaches (HasStep file.graph.steps) n m
-  reach_graph n m = (
-    λ walk. (walk.0, walk_same (StepAt (file_of file)) (HasStep file.graph.steps) (λ r s. (clean.graph.steps.exact r s).1) n walk.0 m walk.1),
-    λ walk. (walk.0, walk_same (HasStep file.graph.steps) (StepAt (file_of file)) (λ r s. (clean.graph.steps.exact r s).0) n walk.0 m walk.1),
-  )
-
   -- each row that is reached is a row of the file
   reached_row : (m : ℕ) (walk : List ℕ) (n : ℕ) (r : DataRow) → At rows n r → IsWalk (StepAt (file_of file)) n walk m → (s : DataRow) × At rows m s
   reached_row m [] n r at same = (r, subst (λ (k : ℕ). At rows k r) same at)
@@ -196,13 +184,14 @@ module _ (look : Look) (file : CheckedFile) (clean : IsClean file) (found : List
       let front = first_item found some in
       let its = (are front.0).0 front.1 in
       let n = its.1.0 in
+      let walks = graphs_walk_as_files (file_of file) file.graph clean.graph in
       let first = its_row n its.1.1.0 its.1.1.1 in (
         n,
         (first.0, first.1, first.2),
         λ m walk.
             let s = reached_row m walk.0 n first.0 first.1 walk.1 in
             let there = headed_of headed rows m s.0 zip s.1 in
-            let in_found = (are there.0).1 (m, (n, its.1.1, (reach_graph n m).0 walk), there.1) in
+            let in_found = (are there.0).1 (m, (n, its.1.1, (walks.reaches n m).1 walk), there.1) in
             let seen = subst (λ (x : HeadedRow). HeadedMayBeSeen look x true) in_found.2 (all in_found.0 there.0 in_found.1) in
             (s.0, s.1, (headed_law look there.0 true seen s.0 there.2.0).0 refl),
       )
@@ -213,7 +202,7 @@ module _ (look : Look) (file : CheckedFile) (clean : IsClean file) (found : List
       let its = (are h).0 has in
       let first = its_row its.1.0 its.1.1.0 its.1.1.1 in
       let same : shows.0 ≡ its.1.0 = one_project file clean shows.0 its.1.0 shows.1 (first.0, first.1, first.2) in
-      let walk = (reach_graph its.1.0 its.0).1 its.1.2 in
+      let walk = ((graphs_walk_as_files (file_of file) file.graph clean.graph).reaches its.1.0 its.0).0 its.1.2 in
       let there = shows.2 its.0 (subst (λ (k : ℕ). Reaches (StepAt (file_of file)) k its.0) (sym same) walk) in
       let row = row_of_headed headed rows its.0 h zip its.2 in
       let one : there.0 ≡ row.0 = one_at rows its.0 there.0 row.0 there.1 row.1 in

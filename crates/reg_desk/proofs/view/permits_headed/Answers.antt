@@ -1,33 +1,25 @@
 use Rattle.std.proofs.Common.{◌≡◌, ◌∙◌, ◌∷◌, [], Bool, Err, List, ℕ, ap, arith, get_or, length, subst, sym}
 use Rattle.std.specs.Prelude.{codes}
-use Rattle.std.proofs.lemmas.Result.{err_from_is_err_and}
 use Rattle.ags_rows.specs.Spelling.{Spells}
 use Rattle.ags_rows.proofs.Lemmas.{same_fields}
-use Rattle.reg_store.specs.declared.keep.KeepError.TheVariants.{Store}
-use Rattle.reg_desk.proofs.Views.{seen_headed, with_ok}
+use Rattle.reg_desk.proofs.Views.{seen_headed, with_ok, passed_on}
 use Rattle.reg_desk.proofs.view.permits_headed.Goals as goal
 
 pub returns-in_err-above-clause-broken : goal.returns-in_err-above-clause-broken
 returns-in_err-above-clause-broken c = λ e found is.
-    let p = err_from_is_err_and c.from_residual.result c.from_residual.ensures.1 in
-    let same : p.0 ≡ c.in_err-above.field-0.0 = p.2 in
-    let store : c.in_err-above.field-0.0 ≡ Store = cc in
+    let store = passed_on c.from_residual.result c.in_err-above.field-0.0 c.from_residual.ensures.1 e in
     let all = codes "GROUP" ∷ found.group ∷ [] in
     c.in_err-above.ensures.broken (ap (λ e. Err e) store) all (subst (λ (t : List ℕ). Spells t all) (sym c.as_slice.ensures) is.above)
 
 pub returns-in_err-headings-clause-broken : goal.returns-in_err-headings-clause-broken
 returns-in_err-headings-clause-broken c = λ e found is.
-    let p = err_from_is_err_and c.from_residual-in_err-headings.result c.from_residual-in_err-headings.ensures.1 in
-    let same : p.0 ≡ c.in_err-headings.field-0.0 = p.2 in
-    let store : c.in_err-headings.field-0.0 ≡ Store = cc in
+    let store = passed_on c.from_residual-in_err-headings.result c.in_err-headings.field-0.0 c.from_residual-in_err-headings.ensures.1 e in
     let all = codes "HEADING" ∷ found.headings in
     c.in_err-headings.ensures.broken (ap (λ e. Err e) store) all (subst (λ (t : List ℕ). Spells t all) (sym c.as_slice-2.ensures) is.headings)
 
 pub returns-in_err-fields-clause-broken : goal.returns-in_err-fields-clause-broken
 returns-in_err-fields-clause-broken c = λ e found is.
-    let p = err_from_is_err_and c.from_residual-in_err-fields.result c.from_residual-in_err-fields.ensures.1 in
-    let same : p.0 ≡ c.in_err-fields.field-0.0 = p.2 in
-    let store : c.in_err-fields.field-0.0 ≡ Store = cc in
+    let store = passed_on c.from_residual-in_err-fields.result c.in_err-fields.field-0.0 c.from_residual-in_err-fields.ensures.1 e in
     let all = codes "DATA" ∷ found.fields in
     c.in_err-fields.ensures.broken (ap (λ e. Err e) store) all (subst (λ (t : List ℕ). Spells t all) (sym c.as_slice-3.ensures) is.fields)
 

@@ -1,11 +1,10 @@
-use Rattle.std.proofs.Common.{◌≡◌, Err, List, All, ap, subst, sym, true}
+use Rattle.std.proofs.Common.{Err, List, All, ap, subst, sym, true}
 use Rattle.std.proofs.lemmas.List.{take_all}
 use Rattle.std.proofs.lemmas.List.Elements.{All-more, All-nil}
-use Rattle.std.proofs.lemmas.Result.{err_from_is_err_and}
 use Rattle.reg_store.specs.declared.keep.HeadedRow.{HeadedRow}
-use Rattle.reg_store.specs.declared.keep.KeepError.TheVariants.{Store}
 use Rattle.reg_desk.specs.View.{HeadedMayBeSeen}
 use Rattle.reg_desk.proofs.Projects.{decided, found_row, one_hidden}
+use Rattle.reg_desk.proofs.Views.{passed_on}
 use Rattle.reg_desk.proofs.view.shows_rows.Goals as goal
 
 pub loop-row-init : goal.loop-row-init
@@ -19,9 +18,7 @@ returns-then-not-branch-clause-seen c = λ file clean are.
 
 pub returns-in_err-permits_headed-clause-broken : goal.returns-in_err-permits_headed-clause-broken
 returns-in_err-permits_headed-clause-broken c = λ e file clean are.
-    let p = err_from_is_err_and c.from_residual.result c.from_residual.ensures.1 in
-    let same : p.0 ≡ c.in_err-permits_headed.field-0.0 = p.2 in
-    let store : c.in_err-permits_headed.field-0.0 ≡ Store = cc in
+    let store = passed_on c.from_residual.result c.in_err-permits_headed.field-0.0 c.from_residual.ensures.1 e in
     let row = found_row c.args.look.now file clean c.args.rows.now are c.row-item.result (c.loop-row.row-index, c.loop-row-test.true, sym c.row-item.is) in
     c.in_err-permits_headed.ensures.broken (ap (λ e. Err e) store) row.0 row.1
 
