@@ -26,44 +26,59 @@ project_of_file file rows graph found clean rows_are graph_is its =
 
 -- ---- the first number that passes a test is one, so it is there where it is only known that there is some
 
-First : (ℕ → Bool) → Type 0
-First test = (k : ℕ) × (test k ≡ true) × ((j : ℕ) → j < k → test j ≡ false)
+abbrev IsFirst : (ℕ → Bool) → ℕ → Type 0
+IsFirst test k = (test k ≡ true) × ((j : ℕ) → j < k → test j ≡ false)
+
+abbrev First : (ℕ → Bool) → Type 0
+First test = (k : ℕ) × IsFirst test k
 
 apart : {A : Type 0} {b : Bool} → b ≡ true → b ≡ false → A
-apart yes no = let clash : true ≡ false = sym yes ∙ no in absurd cc
+apart is is_not = let clash : true ≡ false = sym is ∙ is_not in absurd cc
 
 one_first : (test : ℕ → Bool) (a b : First test) → a ≡ b
-one_first test a b = Σ_prop_path (λ k. Prim.hlevel props) (elim (cases_lt a.0 b.0) [
-  | inl low ↦ apart a.1 (b.2 a.0 low)
-  | inr up ↦ elim (cases_lt b.0 a.0) [ inl low ↦ apart b.1 (a.2 b.0 low) | inr down ↦ omega (arith, up, down) ]
-])
+one_first test a b = Σ_prop_path {A = ℕ} {B = IsFirst test} prop {u = a} {v = b} same
+  where
+    prop : (k : ℕ) → IsProp (IsFirst test k)
+    prop k = Prim.hlevel props
+
+    same : a.0 ≡ b.0
+    same = elim (cases_lt a.0 b.0) [
+      | inl low ↦ apart a.1.0 (b.1.1 a.0 low)
+      | inr up ↦ elim (cases_lt b.0 a.0) [ inl low ↦ apart b.1.0 (a.1.1 b.0 low) | inr down ↦ omega (arith, up, down) ]
+    ]
 
 first_from : (test : ℕ → Bool) (n k : ℕ) → ((j : ℕ) → j < k → test j ≡ false) → test (k + n) ≡ true → First test
-first_from test zero k none yes = let here : k + zero ≡ k = omega arith in (k, ap test (sym here) ∙ yes, none)
-first_from test (suc n) k none yes = go (test k) refl
+first_from test zero k none is = let here : k + zero ≡ k = omega arith in (k, (ap test (sym here) ∙ is, none))
+first_from test (suc n) k none is = go (test k) refl (λ more. first_from test n (k + 1) more (ap test (sym next) ∙ is))
   where
     next : k + suc n ≡ (k + 1) + n
     next = omega arith
 
-    go : (b : Bool) → test k ≡ b → First test
-    go true is = (k, is, none)
-    go false is = first_from test n (k + 1) (λ j low. elim (cases_lt j k) [
+    go : (b : Bool) → test k ≡ b → (((j : ℕ) → j < k + 1 → test j ≡ false) → First test) → First test
+    go true here later = (k, (here, none))
+    go false here later = later (λ j low. elim (cases_lt j k) [
       | inl below ↦ none j below
-      | inr up ↦ (let same : j ≡ k = omega (arith, low, up) in ap test same ∙ is)
-    ]) (ap test (sym next) ∙ yes)
+      | inr up ↦ (let same : j ≡ k = omega (arith, low, up) in ap test same ∙ here)
+    ])
+
+from_0 : (n : ℕ) → 0 + n ≡ n
+from_0 n = omega arith
 
 first_of : (test : ℕ → Bool) → ∥ ((k : ℕ) × (test k ≡ true)) ∥₁ → First test
-first_of test some = ∥∥₁_elim some (one_first test) (λ (p : (k : ℕ) × (test k ≡ true)). first_from test p.0 0 (λ j low. absurd (omega (arith, low))) p.1)
+first_of test some = ∥∥₁_elim some (one_first test) (λ (p : (k : ℕ) × (test k ≡ true)). first_from test p.0 0 (λ j low. absurd (omega (arith, low))) (ap test (from_0 p.0) ∙ p.1))
 
 -- ---- what a list contains, by a test
 
-passed : {X : Type 0} (test : X → Bool) (xs : List X) → list_any test xs ≡ true → (x : X) × Contains xs x × (test x ≡ true)
+abbrev Passed : {X : Type 0} → (X → Bool) → List X → Type 0
+Passed {X} test xs = (x : X) × Contains xs x × (test x ≡ true)
+
+passed : {X : Type 0} (test : X → Bool) (xs : List X) → list_any test xs ≡ true → Passed test xs
 passed test [] is = absurd cc
-passed {X} test (x ∷ xs) is = go (test x) refl is
+passed test (x ∷ xs) is = go (test x) refl is (passed test xs)
   where
-    go : (b : Bool) → test x ≡ b → (b || list_any test xs) ≡ true → (y : X) × Contains (x ∷ xs) y × (test y ≡ true)
-    go true e is = (x, contains_head x xs, e)
-    go false e is = let at = passed test xs is in (at.0, contains_tail x xs at.0 at.1, at.2)
+    go : (b : Bool) → test x ≡ b → (b || list_any test xs) ≡ true → (list_any test xs ≡ true → Passed test xs) → Passed test (x ∷ xs)
+    go true here is later = (x, contains_head x xs, here)
+    go false here is later = let at = later is in (at.0, contains_tail x xs at.0 at.1, at.2)
 
 passes : {X : Type 0} (test : X → Bool) (xs : List X) (x : X) → Contains xs x → test x ≡ true → list_any test xs ≡ true
 passes test xs x has is = list_any_at test xs has.0 x has.1 (ap test has.2 ∙ is)
@@ -74,7 +89,7 @@ both a b x y = subst₂ (λ (p q : Bool). (p && q) ≡ true) (sym x) (sym y) ref
 -- ---- whether so many steps lead to an end
 
 module _ (steps : List (ℕ × ℕ)) (is_end : ℕ → Bool) where
-  leads : ℕ → ℕ → Bool
+  abbrev leads : ℕ → ℕ → Bool
   leads zero r = is_end r
   leads (suc k) r = list_any (λ step. (step.0 == r) && leads k step.1) steps
 
@@ -93,7 +108,7 @@ module _ (steps : List (ℕ × ℕ)) (is_end : ℕ → Bool) where
 
 -- ---- rows that are only known to be those that are reached are so
 
-same_row : HeadedRow → HeadedRow → Bool
+abbrev same_row : HeadedRow → HeadedRow → Bool
 same_row a b = bytes_eq a.group b.group && (bytes_eq a.headings b.headings && bytes_eq a.line b.line)
 
 row_same : (a b : HeadedRow) → same_row a b ≡ true → a ≡ b
@@ -103,9 +118,9 @@ row_same a b is =
     λ i. record { group = (bytes_eq-Decides a.group b.group).0 one.0 i; headings = (bytes_eq-Decides a.headings b.headings).0 two.0 i; line = (bytes_eq-Decides a.line b.line).0 two.1 i }
 
 row_itself : (a : HeadedRow) → same_row a a ≡ true
-row_itself a = both _ _ ((bytes_eq-Decides a.group a.group).1 refl) (both _ _ ((bytes_eq-Decides a.headings a.headings).1 refl) ((bytes_eq-Decides a.line) a.line)).1 refl)
+row_itself a = both _ _ ((bytes_eq-Decides a.group a.group).1 refl) (both _ _ ((bytes_eq-Decides a.headings a.headings).1 refl) ((bytes_eq-Decides a.line a.line).1 refl))
 
-shows : HeadedRow → Option HeadedRow → Bool
+abbrev shows : HeadedRow → Option HeadedRow → Bool
 shows row None = false
 shows row (Some other) = same_row other row
 
@@ -116,20 +131,26 @@ shown row (Some other) is = ap (λ (r : HeadedRow). Some r) (row_same other row 
 number_is : {a b : ℕ} {x y : HeadedRow} {o : Option (ℕ × HeadedRow)} → o ≡ Some (a, x) → o ≡ Some (b, y) → a ≡ b
 number_is {a} {b} {x} {y} e f = let pair : (a, x) ≡ (b, y) = cc in ap (λ (p : ℕ × HeadedRow). p.0) pair
 
+none_found : {p : ℕ × HeadedRow} {o : Option (ℕ × HeadedRow)} → o ≡ None → o ≡ Some p → ⊥
+none_found none is = absurd cc
+
 reached : (rows : List KeptRow) (steps : List (ℕ × ℕ)) (row : HeadedRow) → ∥ IsProjectRow rows steps row ∥₁ → IsProjectRow rows steps row
 reached rows steps row some = go (project_of rows) refl
   where
     is_end : ℕ → Bool
     is_end m = shows row (slice_get (headed_rows [] [] rows) m)
 
-    go : (o : Option (ℕ × HeadedRow)) → project_of rows ≡ o → IsProjectRow rows steps row
-    go None none = absurd (∥∥₁_elim some (Prim.hlevel props) (λ (its : IsProjectRow rows steps row). (let is = its.1.1.1 in let clash : None ≡ Some (its.1.0, its.1.1.0) = sym none ∙ is in absurd cc)))
-    go (Some (n, first)) is =
-        let found = first_of (λ k. leads steps is_end k n) (∥∥₁_map some (λ (its : IsProjectRow rows steps row).
-        (let walk = subst (λ (r : ℕ). Reaches (HasStep steps) r its.0) (number_is its.1.1.1 is) its.1.2 in
+    counted : (n : ℕ) (first : HeadedRow) → IsProjectRow rows steps row → project_of rows ≡ Some (n, first) → (k : ℕ) × (leads steps is_end k n ≡ true)
+    counted n first its is =
+        let walk = subst (λ (r : ℕ). Reaches (HasStep steps) r its.0) (number_is its.1.1.1 is) its.1.2 in
         let end : is_end its.0 ≡ true = ap (shows row) its.2 ∙ row_itself row in
-        (length walk.0, leads_on steps is_end walk.0 n its.0 walk.1 end)))) in
-        let at = led steps is_end found.0 n found.1 in
+        (length walk.0, leads_on steps is_end walk.0 n its.0 walk.1 end)
+
+    go : (o : Option (ℕ × HeadedRow)) → project_of rows ≡ o → IsProjectRow rows steps row
+    go None none = absurd (∥∥₁_elim some (Prim.hlevel props) (λ (its : IsProjectRow rows steps row). none_found none its.1.1.1))
+    go (Some (n, first)) is =
+        let found = first_of (λ k. leads steps is_end k n) (∥∥₁_map some (λ (its : IsProjectRow rows steps row). counted n first its is)) in
+        let at = led steps is_end found.0 n found.1.0 in
         (at.0, (n, (first, is), at.1), shown row (slice_get (headed_rows [] [] rows) at.0) at.2)
 
 pub project_rows_of_some : (rows : List KeptRow) (steps : List (ℕ × ℕ)) (found : List HeadedRow) → ∥ AreProjectRows rows steps found ∥₁ → AreProjectRows rows steps found

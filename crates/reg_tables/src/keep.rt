@@ -8,9 +8,9 @@ ghost use Rattle.sqlite.specs.Held.{state};
 ghost use Rattle.reg_tables.specs.Memory.{Agrees};
 ghost use Rattle.reg_tables.specs.Register.{deposits_in, KeepsIfClean, KeepsRegister, LeavesBroken, LeavesList, text_in};
 
-use crate::memory::{Memory, copied_rows};
 use crate::memory::digests::digest_of;
 use crate::memory::file::KnownFile;
+use crate::memory::{Memory, copied_rows};
 use crate::read::equal::read_equal;
 use crate::read::graph::read_graph;
 use crate::read::lines::read_lines;

@@ -28,15 +28,16 @@ impl KnownFile {
         ensures { IfOk result (IsKnownOf file.now) }
     {
         let project = project_rows_in(alloc, rows, file.graph())?;
+        let bytes = file.bytes().len();
         let held = bytes_held(&project);
         if held > MOST_HELD {
             return Ok(KnownFile {
-                size: Size::of(file, 0),
+                size: Size::of(file, bytes),
                 project: None,
             });
         }
         Ok(KnownFile {
-            size: Size::of(file, held),
+            size: Size::of(file, bytes.saturating_add(held)),
             project: Some(project),
         })
     }

@@ -19,14 +19,14 @@ pub(crate) struct Size {
 }
 
 impl Size {
-    /// That of a checked file, of which rows in memory take so many bytes.
-    pub(crate) fn of(file: &Checked<'_>, held: usize) -> Size
+    /// That of a checked file which has so many bytes, with those that rows in memory take.
+    pub(crate) fn of(file: &Checked<'_>, bytes: usize) -> Size
         ensures rows { result.rows ≡ file.now.graph.rows }
     {
         let rows = file.graph().rows();
         let headers = file.scan().groups().len().saturating_mul(HEADER_ROWS);
         Size {
-            bytes: file.bytes().len().saturating_add(held),
+            bytes,
             lines: headers.saturating_add(rows as usize),
             rows,
             steps: file.graph().steps().len(),
