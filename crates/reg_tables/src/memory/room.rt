@@ -21,7 +21,7 @@ pub(crate) struct Size {
 impl Size {
     /// That of a checked file which has so many bytes, with those that rows in memory take.
     pub(crate) fn of(file: &Checked<'_>, bytes: usize) -> Size
-        ensures rows { result.rows ≡ file.now.graph.rows }
+        ensures { result.rows ≡ file.now.graph.rows }
     {
         let rows = file.graph().rows();
         let headers = file.scan().groups().len().saturating_mul(HEADER_ROWS);

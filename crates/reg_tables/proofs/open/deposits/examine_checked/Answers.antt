@@ -36,5 +36,8 @@ returns-in-Ok-false-clause-tested g c clean =
 pub returns-in-Ok-false-clause-quiet : goal.returns-in-Ok-false-clause-quiet
 returns-in-Ok-false-clause-quiet g c = c.in-Ok-false.ensures.quiet
 
-pub returns-in-Err-clause-quiet : goal.returns-in-Err-clause-quiet
-returns-in-Err-clause-quiet g c = c.in-Err.ensures.quiet
+pub returns-in_default-clause-quiet : goal.returns-in_default-clause-quiet
+returns-in_default-clause-quiet g c = quiet_none (state g.S.Store c.args.conn.now) _ c.requires.idle.idle
+
+pub returns-in_default-of-clause-quiet : goal.returns-in_default-of-clause-quiet
+returns-in_default-of-clause-quiet g c = quiet_none (state g.S.Store c.args.conn.now) _ c.requires.idle.idle
