@@ -127,7 +127,7 @@ returns-in-Ok-added g c =
     let keep = c.args.self.now in
     let old = state g.S.Store keep.connection in
     let new = state g.S.Store c.add_checked-added.new.conn in
-    let base = c.before in
+    let base = c.before.before in
     let low : length keep.memory.known.items < 999999 = omega (arith, c.count-count.ensures) in
     let before = λ (clean : HasCleanDisk new). clean_before old new c.add_checked-added.ensures.crash clean in
     record {
@@ -147,8 +147,8 @@ returns-in-Ok-added g c =
       };
     }
 
-pub returns-in-Err-clause-leaves : goal.returns-in-Err-clause-leaves
-returns-in-Err-clause-leaves g c =
+pub returns-clause-leaves : goal.returns-clause-leaves
+returns-clause-leaves g c =
     let keep = c.args.self.now in
     let old = state g.S.Store keep.connection in
     let new = state g.S.Store c.add_checked-added.new.conn in
