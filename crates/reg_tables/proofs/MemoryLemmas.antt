@@ -1,7 +1,7 @@
 -- What is known of the deposits, as it is looked up, noted and grows with the list.
 use Rattle.std.proofs.Common.{zero, suc, ◌≡◌, ℕ, ◌+◌, ◌-◌, ◌<◌, ◌≤◌, Bool, true, false, List, [], ◌∷◌, ◌++◌, get_or, length, map, take, if◌then◌else◌, Some, slice_get, refl, sym, ap, subst, subst₂, ◌∙◌, arith}
 use Rattle.std.proofs.Math.ListN.{set}
-use Rattle.std.proofs.lemmas.List.{length_push, take_all}
+use Rattle.std.proofs.lemmas.List.{length_push}
 use Rattle.std.proofs.lemmas.Option.{slice_get_read}
 use Rattle.std.proofs.lemmas.Slice.Zip.{AllZip-long}
 use Rattle.std.specs.List.{AllZip}
@@ -17,10 +17,9 @@ use Rattle.reg_tables.specs.declared.memory.Known.{Known}
 use Rattle.reg_tables.specs.declared.memory.Memory.{Memory}
 use Rattle.reg_tables.specs.declared.memory.digests.Digests.{Digests}
 use Rattle.reg_tables.specs.Digests.{AddsNumber, AreBelow, AreDigested, PutsNumbers, numbers_under, own_digest}
-use Rattle.reg_tables.specs.Heads.{AreNew, IsNewOf, KnowsFile, head_of}
+use Rattle.reg_tables.specs.Heads.{AreNew, IsNewOf, KnowsFile}
 use Rattle.sqlite_catalog.proofs.ListFacts.{zip_push}
 use Rattle.reg_tables.proofs.MethodsLaws.{zip_at}
-use Rattle.reg_tables.proofs.PushesLaws.{pushed_get}
 use Rattle.reg_tables.specs.Memory.{Agrees, AreKnown, IsComing, IsKnown, with_mark}
 use Rattle.reg_tables.proofs.Known.{bare_of, marked_as, with_marks}
 use Rattle.reg_tables.specs.Quiet.{IsStill}

@@ -1,4 +1,4 @@
-use Rattle.std.proofs.Common.{◌≡◌, ◌<◌, ◌≤◌, List, Ok, length, rules, refl, sym, ap, subst, subst₂, ◌∙◌}
+use Rattle.std.proofs.Common.{◌≡◌, ◌<◌, ◌≤◌, List, Ok, length, rules, refl, sym, subst, subst₂, ◌∙◌}
 use Rattle.sqlite.specs.Held.{state}
 use Rattle.ags_dict.specs.Entries.{Entries}
 use Rattle.reg_store.specs.Deposit.{Deposit, sents}
@@ -8,8 +8,7 @@ use Rattle.reg_store.specs.Project.{AreProjectRows}
 use Rattle.reg_store.specs.Reading.{HasGraph}
 use Rattle.reg_tables.specs.Register.{deposits_in}
 use Rattle.reg_tables.proofs.ProjectLemmas.{project_of_file}
-use Rattle.reg_tables.proofs.QuietLaws.{quiet_none}
-use Rattle.reg_tables.proofs.ReadsLemmas.{reads_as, reads_still, reads_then}
+use Rattle.reg_tables.proofs.ReadsLemmas.{reads_as, reads_then}
 use Rattle.reg_tables.proofs.keep.SqlKeepKeep.project_rows.Goals as goal
 
 pub returns-in-Some-clause-read : goal.returns-in-Some-clause-read

@@ -1,4 +1,4 @@
-use Rattle.std.proofs.Common.{◌-◌, ◌<◌, ◌≤◌, length, rules, arith, subst, sym}
+use Rattle.std.proofs.Common.{◌-◌, ◌≤◌, length, rules, arith, subst, sym}
 use Rattle.reg_store.specs.Deposit.{sents}
 use Rattle.reg_store.specs.Fit.{IsFileOf}
 use Rattle.reg_store.specs.Sent.{Sent}

@@ -1,4 +1,4 @@
-use Rattle.std.proofs.Common.{rules, ◌≡◌, Some, refl, subst, sym}
+use Rattle.std.proofs.Common.{subst}
 use Rattle.std.proofs.lemmas.Option.{same_Some}
 use Rattle.reg_store.specs.Reading.{HasProjectRows}
 use Rattle.reg_tables.proofs.ProjectLemmas.{project_of_file}
