@@ -35,8 +35,8 @@ use Rattle.reg_tables.specs.Tables.{HasTables, format_number, schema_of}
 use Rattle.reg_tables.specs.Register.{HoldsSent, deposit_rows, integer_in, meta_columns}
 use Rattle.reg_tables.specs.RegisterLaws.{rows-length}
 use Rattle.reg_tables.specs.Digests.{AreBelow, HasEqual, HasNoEqual, HoldsDigests, IsFirst, IsNew, is_among, numbers_under, own_digest}
-use Rattle.reg_tables.specs.Heads.{IsDigestedAt, IsDigestedFrom, IsSizeOf}
-use Rattle.reg_tables.specs.declared.memory.room.Size.{Size}
+use Rattle.reg_tables.specs.Heads.{IsDigestedAt, IsDigestedFrom, IsKnownOf, KnowsFile}
+use Rattle.reg_tables.specs.declared.memory.file.KnownFile.{KnownFile}
 use Rattle.reg_tables.specs.Methods.{HoldsLines, HoldsSteps}
 use Rattle.reg_tables.proofs.MethodsLaws.{same_deposit, same_file}
 use Rattle.reg_tables.proofs.RepeatsLemmas.{false_if, same_digest}
@@ -80,21 +80,23 @@ pub tests_later : (r : Result Bool KeepError) (A : Type 0) (B : Database → Typ
 tests_later (Ok is) A B old mid same one two = tests_then is A B old mid same one two
 tests_later (Err e) A B old mid same one two = tt
 
--- the size of a file is that of each file of its deposit
-pub size_of_file : (r : Result (Option Size) KeepError) (dictionary : Entries) (d : Sent) (file : CheckedFile) → IsFileOf dictionary d file
-    → IfOk r (λ found. IfSome found (λ size. size.rows ≡ file.graph.rows)) → IfOk r (λ found. IfSome found (IsSizeOf dictionary d))
-size_of_file (Err e) dictionary d file its same = tt
-size_of_file (Ok None) dictionary d file its same = tt
-size_of_file (Ok (Some size)) dictionary d file its same = λ other of. same ∙ ap (λ (f : CheckedFile). f.graph.rows) (same_file dictionary d file other its of)
+-- what is known of a file is known of each file of its deposit
+pub known_of : (dictionary : Entries) (d : Sent) (file : CheckedFile) (known : KnownFile) → IsFileOf dictionary d file → IsKnownOf file known → KnowsFile dictionary d known
+known_of dictionary d file known its is other of = subst (λ (f : CheckedFile). IsKnownOf f known) (same_file dictionary d file other its of) is
+
+pub known_file : (r : Result (Option KnownFile) KeepError) (dictionary : Entries) (d : Sent) (file : CheckedFile) → IsFileOf dictionary d file → IfOk r (λ found. IfSome found (IsKnownOf file)) → IfOk r (λ found. IfSome found (KnowsFile dictionary d))
+known_file (Err e) dictionary d file its is = tt
+known_file (Ok None) dictionary d file its is = tt
+known_file (Ok (Some known)) dictionary d file its is = known_of dictionary d file known its is
 
 -- the lines and steps of a file, by those that are its
-pub file_tests : (r : Result Bool KeepError) (db : Database) (n : ℕ) (lines own : List KeptRow) (steps graph : List (ℕ × ℕ)) → lines ≡ own → steps ≡ graph
-    → IfOk r (λ is. Tests is (HoldsLines db n lines × HoldsSteps db n steps)) → IfOk r (λ is. Tests is (HoldsLines db n own × HoldsSteps db n graph))
-file_tests r db n lines own steps graph lines_are steps_are test =
-    subst₂ (λ (all : List KeptRow) (of : List (ℕ × ℕ)). IfOk r (λ is. Tests is (HoldsLines db n all × HoldsSteps db n of))) lines_are steps_are test
+pub file_tests : {is so : Bool} (db : Database) (n : ℕ) (lines own : List KeptRow) (steps graph : List (ℕ × ℕ)) → is ≡ so → lines ≡ own → steps ≡ graph
+    → Tests is (HoldsLines db n lines × HoldsSteps db n steps) → Tests so (HoldsLines db n own × HoldsSteps db n graph)
+file_tests {is} {so} db n lines own steps graph is_so lines_are steps_are test =
+    subst (λ (b : Bool). Tests b (HoldsLines db n own × HoldsSteps db n graph)) is_so (subst₂ (λ (all : List KeptRow) (of : List (ℕ × ℕ)). Tests is (HoldsLines db n all × HoldsSteps db n of)) lines_are steps_are test)
 
 -- a deposit, by the lines and steps of its file
-pub body_tests : (r : Result (Option Size) KeepError) (db : Database) (dictionary : Entries) (n : ℕ) (d : Sent) (file : CheckedFile) → IsFileOf dictionary d file
+pub body_tests : (r : Result (Option KnownFile) KeepError) (db : Database) (dictionary : Entries) (n : ℕ) (d : Sent) (file : CheckedFile) → IsFileOf dictionary d file
     → IfOk r (λ found. Tests (is_some found) (HoldsLines db n (kept_rows file.groups) × HoldsSteps db n file.graph.steps)) → IfOk r (λ found. Tests (is_some found) (HoldsBody db dictionary n d))
 body_tests (Err e) db dictionary n d file its test = tt
 body_tests (Ok found) db dictionary n d file its test = tests_as (is_some found) _ (HoldsBody db dictionary n d) (λ held. record { file = file; its = its; lines = held.0; steps = held.1 }) back test

@@ -1,5 +1,5 @@
 -- What is known of a register's deposits, as it is read and grows.
-use Rattle.std.proofs.Common.{◌≡◌, ◌⊎◌, inl, inr, ℕ, zero, suc, ◌+◌, ◌-◌, List, [], ◌∷◌, ◌++◌, length, Some, slice_get, refl, sym, ap, subst, ◌∙◌, arith}
+use Rattle.std.proofs.Common.{◌≡◌, ◌⊎◌, inl, inr, ℕ, zero, suc, ◌+◌, List, [], ◌∷◌, ◌++◌, length, Some, slice_get, refl, sym, ap, subst, ◌∙◌, arith}
 use Rattle.std.proofs.Math.Logic.{∥∥₁_elim}
 use Rattle.std.proofs.Props.{props}
 use Rattle.std.specs.List.Sorted.{IsPermutation}
@@ -31,13 +31,9 @@ known_read db dictionary known one at long held is k x here d row = elim (in_pus
 ]
 
 -- what is known of the deposits in the tables is so of the list that they hold
-pub new_held : (db : Database) (dictionary : Entries) (known : List Known) (list : List Sent) → IsPermutation (deposit_rows 1 list) (deposit_table db.trees) → HoldsKnown db dictionary known → AreNew dictionary known list
-new_held db dictionary known list there held k d one at here =
-    let e : (k + 1) - 1 ≡ k = omega arith in
-    held k one here d (row_of_number (k + 1) list (deposit_table db.trees) d (omega arith) there (ap (slice_get list) e ∙ at))
-
-pub new_of_some : (dictionary : Entries) (known : List Known) (list : List Sent) → ∥ AreNew dictionary known list ∥₁ → AreNew dictionary known list
-new_of_some dictionary known list some k d one at here = record {
-  known = ∥∥₁_elim some (Prim.hlevel props) (λ (are : AreNew dictionary known list). (are k d one at here).known);
-  size = λ file its. ∥∥₁_elim some (Prim.hlevel props) (λ (are : AreNew dictionary known list). (are k d one at here).size file its);
-}
+pub new_held : (db : Database) (dictionary : Entries) (known : List Known) (list : List Sent) → ∥ IsPermutation (deposit_rows 1 list) (deposit_table db.trees) ∥₁ → HoldsKnown db dictionary known → AreNew dictionary known list
+new_held db dictionary known list there held k d one at here = held k one here d row
+  where
+    row : IsRowOf db (k + 1) d
+    row = ∥∥₁_elim there (Prim.hlevel props) (λ (are : IsPermutation (deposit_rows 1 list) (deposit_table db.trees)).
+        row_of_number (k + 1) list (deposit_table db.trees) d (omega arith) are (ap (slice_get list) (omega arith) ∙ at))

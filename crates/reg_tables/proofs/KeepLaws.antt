@@ -135,10 +135,10 @@ crash_at {old} {new} {dictionary} {count} Change next h becomes meta survives cl
     go (inl may) = inl (left.0, may, left.2, left.3)
     go (inr put) = inr (
       left.2 ∙ ap text_in put.3 ∙ ap (λ (rows : List Row). dictionary_body (map columns_3 rows)) (meta put.0 put.1)
-      ∙ sym (ap (λ (db : Database). text_in db.trees) (settled_of h)),
+          ∙ sym (ap (λ (db : Database). text_in db.trees) (settled_of h)),
       ∥∥₁_elim h (list_set _ _) (λ (k : KeepsRegister old dictionary count).
-      sym (read_back (tables left.0) list left.3) ∙ ap deposits_in put.3
-      ∙ read_back put.0 next (becomes k put.0 put.1 put.2)),
+          sym (read_back (tables left.0) list left.3) ∙ ap deposits_in put.3
+          ∙ read_back put.0 next (becomes k put.0 put.1 put.2)),
     )
 
 -- and it leaves a register, whole
@@ -199,6 +199,11 @@ pub left_same : (old new : State) → Survives old new (λ _. ⊥) → HasCleanD
     → (trees : Trees) × new.may_leave trees × Holds trees → (trees : Trees) × old.may_leave trees × Holds trees
 left_same old new survives clean Holds left =
     elim (survives.crash clean left.0 left.1) [ inl may ↦ (left.0, may, left.2) | inr none ↦ absurd none ]
+
+pub left_list : (old new : State) → Survives old new (λ _. ⊥) → HasCleanDisk new → (dictionary : Entries) (bytes : List ℕ) (list : List Deposit)
+    → LeavesList new.may_leave dictionary bytes list → LeavesList old.may_leave dictionary bytes list
+left_list old new survives clean dictionary bytes list left =
+    elim (survives.crash clean left.0 left.1) [ inl may ↦ (left.0, may, left.2, left.3) | inr none ↦ absurd none ]
 
 -- a register that was found is kept
 pub adopted_keeps : (old new : State) (dictionary : Entries) (count : ℕ) → IsTrue new.is_open

@@ -6,7 +6,7 @@ use Rattle.reg_tables.specs.Memory.{with_mark}
 
 -- what is known of a deposit, with the mark
 abbrev pub marked_as : Known → Bool → Known
-marked_as one mark = record { head = with_mark one.head mark; size = one.size; project = one.project }
+marked_as one mark = record { head = with_mark one.head mark; file = one.file }
 
 -- what is known of deposits, of which the first have these marks
 abbrev pub with_marks : List Bool → List Known → List Known

@@ -16,7 +16,6 @@ pub mod PushesLaws
 pub mod PutLaws
 pub mod QuietLaws
 pub mod ReadsLaws
-pub mod ReadsProjectLaws
 pub mod ReadsStepsLaws
 pub mod RegisterLaws
 pub mod ShowsLaws

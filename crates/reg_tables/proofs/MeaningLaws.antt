@@ -10,7 +10,7 @@ use Rattle.sqlite.specs.Does.{lacks_sequence}
 use Rattle.sqlite.specs.Schema.{Schema}
 use Rattle.sqlite.specs.Term.{Term, lit, col, op2}
 use Rattle.sqlite_sql.specs.declared.ops.BinaryOp.TheVariants.{Compare}
-use Rattle.sqlite_sql.specs.declared.ops.CompareOp.TheVariants.{Eq, Lt}
+use Rattle.sqlite_sql.specs.declared.ops.CompareOp.TheVariants.{Eq}
 use Rattle.sqlite.specs.Collation.TheVariants.{Binary}
 use Rattle.sqlite.specs.Query.{Query, Join, inner, end}
 use Rattle.sqlite_value.specs.declared.keys.Key.{Key}
@@ -26,7 +26,7 @@ use Rattle.reg_tables.specs.Tables.{register_schema}
 use Rattle.reg_tables.proofs.Texts.{create_meta, create_deposits, create_lines, create_steps, create_withdrawals}
 use Rattle.reg_tables.proofs.Texts.{fill_meta, raise_format, insert_deposit, insert_line, insert_step, insert_mark}
 use Rattle.reg_tables.proofs.Texts.{insert_eight_lines, insert_eight_steps, select_deposit, select_lines, select_steps}
-use Rattle.reg_tables.proofs.Texts.{select_front, select_targets, select_all_numbers, select_marks, select_meta}
+use Rattle.reg_tables.proofs.Texts.{select_all_numbers, select_marks, select_meta}
 use Rattle.reg_tables.specs.Formats.{StartsWithMeta}
 use Rattle.reg_tables.specs.Meaning.{with_meta, with_deposits}
 
@@ -207,22 +207,6 @@ steps_of_deposit = query (inner 6 end) (op2 (Compare Eq Binary) (col 1 1) (col 0
 pub steps_read : Asks select_steps steps_of_deposit (codes "child" ∷ codes "target" ∷ [])
 unfolding understood everything
 steps_read = asks all_four (λ more indexes views. record { asked = refl; plain = (refl, refl); alone = refl })
-
-abbrev pub front_of_deposit : Query
-front_of_deposit = query (inner 4 end) (op2 (Compare Eq Binary) (col 1 1) (col 0 0) ∷ op2 (Compare Lt Binary) (col 1 2)
-    (lit (Int (pos 5))) ∷ []) (col 1 2 ∷ col 1 3 ∷ col 1 4 ∷ col 1 5 ∷ []) (rising (col 1 2) ∷ [])
-
-pub front_read : Asks select_front front_of_deposit (codes "seq" ∷ codes "grp" ∷ codes "kind" ∷ codes "line" ∷ [])
-unfolding understood everything
-front_read = asks all_four (λ more indexes views. record { asked = refl; plain = (refl, refl); alone = refl })
-
-abbrev pub targets_of_row : Query
-targets_of_row = query (inner 6 end) (op2 (Compare Eq Binary) (col 1 1) (col 0 0)
-    ∷ op2 (Compare Eq Binary) (col 1 2) (col 0 1) ∷ []) (col 1 3 ∷ []) (rising (col 1 3) ∷ [])
-
-pub targets_read : Asks select_targets targets_of_row (codes "target" ∷ [])
-unfolding understood everything
-targets_read = asks all_four (λ more indexes views. record { asked = refl; plain = (refl, refl); alone = refl })
 
 abbrev pub all_numbers : Query
 all_numbers = query (inner 2 end) [] (col 1 1 ∷ []) (rising (col 1 1) ∷ [])

@@ -1,7 +1,7 @@
 -- What is known of the deposits, as it is looked up, noted and grows with the list.
-use Rattle.std.proofs.Common.{zero, suc, ◌≡◌, ℕ, ◌+◌, ◌-◌, ◌<◌, ◌≤◌, Bool, true, false, List, [], ◌∷◌, ◌++◌, get_or, length, map, take, if◌then◌else◌, None, Some, slice_get, refl, sym, ap, subst, subst₂, ◌∙◌, arith}
+use Rattle.std.proofs.Common.{zero, suc, ◌≡◌, ℕ, ◌+◌, ◌-◌, ◌<◌, ◌≤◌, Bool, true, false, List, [], ◌∷◌, ◌++◌, get_or, length, map, take, if◌then◌else◌, Some, slice_get, refl, sym, ap, subst, subst₂, ◌∙◌, arith}
 use Rattle.std.proofs.Math.ListN.{set}
-use Rattle.std.proofs.lemmas.List.{length_push, take_all}
+use Rattle.std.proofs.lemmas.List.{length_push}
 use Rattle.std.proofs.lemmas.Option.{slice_get_read}
 use Rattle.std.proofs.lemmas.Slice.Zip.{AllZip-long}
 use Rattle.std.specs.List.{AllZip}
@@ -17,17 +17,14 @@ use Rattle.reg_tables.specs.declared.memory.Known.{Known}
 use Rattle.reg_tables.specs.declared.memory.Memory.{Memory}
 use Rattle.reg_tables.specs.declared.memory.digests.Digests.{Digests}
 use Rattle.reg_tables.specs.Digests.{AddsNumber, AreBelow, AreDigested, PutsNumbers, numbers_under, own_digest}
-use Rattle.reg_tables.specs.Heads.{AreNew, IsNewOf, IsSizeOf, head_of, new_known}
-use Rattle.reg_tables.specs.declared.memory.room.Size.{Size}
+use Rattle.reg_tables.specs.Heads.{AreNew, IsNewOf, KnowsFile}
 use Rattle.sqlite_catalog.proofs.ListFacts.{zip_push}
 use Rattle.reg_tables.proofs.MethodsLaws.{zip_at}
-use Rattle.reg_tables.proofs.PushesLaws.{pushed_get}
-use Rattle.reg_tables.proofs.KeepLaws.{keeps_quiet}
-use Rattle.reg_tables.specs.Memory.{Agrees, AreKnown, IsComing, IsKnown, Remembers, with_mark}
+use Rattle.reg_tables.specs.Memory.{Agrees, AreKnown, IsComing, IsKnown, with_mark}
 use Rattle.reg_tables.proofs.Known.{bare_of, marked_as, with_marks}
 use Rattle.reg_tables.specs.Quiet.{IsStill}
 use Rattle.reg_tables.proofs.QuietLaws.{clean_before}
-use Rattle.reg_tables.specs.Register.{KeepsRegister, deposits_in, marks_of}
+use Rattle.reg_tables.specs.Register.{deposits_in, marks_of}
 use Rattle.reg_tables.proofs.MarksLaws.{deposit_there, length_marked, marked_none, sents_push}
 use Rattle.reg_tables.specs.Marks.{long_sents}
 use Rattle.reg_tables.proofs.RepeatsLemmas.{below_more, below_same, digested_push, digested_same}
@@ -58,16 +55,8 @@ pub known_sent : (dictionary : Entries) (list : List Deposit) (known : List Know
 known_sent dictionary list known k one sent are low is there =
     let d = deposit_there list k sent there in (d.0, d.2, known_here dictionary list known k one d.0 are low is d.1)
 
--- of a deposit of which nothing was read
-new_is_known : (dictionary : Entries) (d : Sent) (size : Size) → IsSizeOf dictionary d size → IsKnown dictionary (unmarked d) (new_known (head_of d) size)
-new_is_known dictionary d size its = record { head = refl; size = its; project = λ row none. absurd cc }
-
 marked_is_known : (dictionary : Entries) (d : Deposit) (one : Known) → IsNewOf dictionary d.sent one → IsKnown dictionary d (marked_as one d.withdrawn)
-marked_is_known dictionary d one new = record {
-  head = ap (λ (x : Known). with_mark x.head d.withdrawn) new.known;
-  size = new.size;
-  project = λ row is. absurd (let none : None ≡ Some row = sym (ap (λ (x : Known). x.project) new.known) ∙ is in cc);
-}
+marked_is_known dictionary d one new = record { head = ap (λ (h : KeptHead). with_mark h d.withdrawn) new.head; file = new.file }
 
 -- what is found of deposits agrees with them once it has their marks
 new_zip : (dictionary : Entries) (list : List Sent) (known : List Known) → length known ≡ length list → AreNew dictionary known list → AllZip (IsNewOf dictionary) list known
@@ -101,13 +90,6 @@ marks_more (m ∷ marks) (x ∷ known) zero mark one at here =
     rw (p, q) refl
 marks_more (m ∷ marks) (x ∷ known) (suc k) mark one at here = ap (λ all. marked_as x m ∷ all) (marks_more marks known k mark one at here)
 
--- something else is known of one deposit
-set_zipped : (dictionary : Entries) (list : List Deposit) (known : List Known) (k : ℕ) (one : Known) → AllZip (IsKnown dictionary) list known → ((d : Deposit) → slice_get list k ≡ Some d → IsKnown dictionary d one) → AllZip (IsKnown dictionary) list (set known k one)
-set_zipped dictionary [] [] k one all its = tt
-set_zipped dictionary (e ∷ list) (x ∷ known) zero one all its = (its e refl, all.1)
-set_zipped dictionary (e ∷ list) (x ∷ known) (suc k) one all its = (all.0, set_zipped dictionary list known k one all.1 its)
-set_zipped dictionary list known k one all its = absurd all
-
 -- the heads give the numbers of a project
 numbers_zipped : (n : ℕ) (project : List ℕ) (dictionary : Entries) (list : List Deposit) (known : List Known) → AllZip (IsKnown dictionary) list known → numbers_from n project (map bare_of known) ≡ numbers_from n project (sents list)
 numbers_zipped n project dictionary [] [] all = refl
@@ -122,24 +104,21 @@ numbers_zipped n project dictionary (d ∷ list) (x ∷ known) all =
     go true h = ap (λ all. n ∷ all) h
     go false h = h
 
-pub known_set : (dictionary : Entries) (list : List Deposit) (known : List Known) (k : ℕ) (one : Known) → AreKnown dictionary list known → ((d : Deposit) → slice_get list k ≡ Some d → IsKnown dictionary d one) → AreKnown dictionary list (set known k one)
-known_set dictionary list known k one are its = unzipped dictionary list _ (set_zipped dictionary list known k one (zipped dictionary list known are) its)
-
 pub numbers_held : (n : ℕ) (project : List ℕ) (dictionary : Entries) (list : List Deposit) (known : List Known) → AreKnown dictionary list known → numbers_from n project (map bare_of known) ≡ numbers_from n project (sents list)
 numbers_held n project dictionary list known are = numbers_zipped n project dictionary list known (zipped dictionary list known are)
 
 -- ---- one deposit more
 
 pub agrees_push : (old new : Memory) (coming : Coming) (dictionary : Entries) (list : List Deposit) (d : Sent) → new.known.items ≡ old.known.items ++ coming.known ∷ [] → PutsNumbers old.digests new.digests coming.digest coming.numbers.items
-    → IsComing old d coming → IsSizeOf dictionary d coming.known.size → Agrees old dictionary list → Agrees new dictionary (list ++ unmarked d ∷ [])
-agrees_push old new coming dictionary list d known puts its sized agrees =
+    → IsComing old d coming → KnowsFile dictionary d coming.known.file → Agrees old dictionary list → Agrees new dictionary (list ++ unmarked d ∷ [])
+agrees_push old new coming dictionary list d known puts its read agrees =
     let number : length old.known.items + 1 ≡ length list + 1 = ap (λ n. n + 1) agrees.known.long in
     let numbers = its.numbers ∙ ap (λ n. numbers_under old.digests (own_digest d) ++ n ∷ []) number ∙ ap (λ (x : List ℕ). numbers_under old.digests x ++ (length list + 1) ∷ []) (sym its.digest) in
     let adds : AddsNumber old.digests new.digests coming.digest (length list + 1) = subst (PutsNumbers old.digests new.digests coming.digest) numbers puts in
     let next = list ++ unmarked d ∷ [] in
     record {
-      known = subst (AreKnown dictionary next) (sym (known ∙ ap (λ one. old.known.items ++ one ∷ []) its.known))
-          (unzipped dictionary next _ (zip_push (IsKnown dictionary) list old.known.items (unmarked d) (new_known (head_of d) coming.known.size) (zipped dictionary list old.known.items agrees.known) (new_is_known dictionary d coming.known.size sized)));
+      known = subst (AreKnown dictionary next) (sym known)
+          (unzipped dictionary next _ (zip_push (IsKnown dictionary) list old.known.items (unmarked d) coming.known (zipped dictionary list old.known.items agrees.known) (record { head = its.head; file = read })));
       digests = digested_push old.digests new.digests coming.digest (sents list) (sents next) d (length list + 1) agrees.digests adds its.digest (ap (λ n. n + 1) (sym (long_sents list))) (sents_push list d);
       below = subst (λ n. AreBelow new.digests (n + 1)) (sym (length_push list (unmarked d))) (below_more old.digests new.digests coming.digest (length list + 1) (omega arith) adds agrees.below);
     }
@@ -157,7 +136,7 @@ mark_zipped dictionary [] [] k one at all = tt
 mark_zipped dictionary (e ∷ list) (x ∷ known) zero one at all =
     let same : x ≡ one = cc in
     let was : IsKnown dictionary e one = subst (IsKnown dictionary e) same all.0 in
-    (record { head = ap (λ (h : KeptHead). with_mark h true) was.head; size = was.size; project = was.project }, all.1)
+    (record { head = ap (λ (h : KeptHead). with_mark h true) was.head; file = was.file }, all.1)
 mark_zipped dictionary (e ∷ list) (x ∷ known) (suc k) one at all = (all.0, mark_zipped dictionary list known k one at all.1)
 mark_zipped dictionary list known k one at all = absurd all
 
@@ -184,17 +163,3 @@ pub agrees_still : (old new : State) {failed : Bool} (memory : Memory) (dictiona
     → Agrees memory dictionary (deposits_in new.committed.trees)
 agrees_still old new memory dictionary agrees quiet clean well =
     subst (λ (db : Database). Agrees memory dictionary (deposits_in db.trees)) (sym (quiet.same clean well).1) (agrees (clean_before old new quiet.survives clean))
-
--- what was read is noted
-pub agrees_noted : (old new : State) {failed : Bool} (memory noted : Memory) (dictionary : Entries) {IsRead : Entries → List Sent → Type 0} → (HasCleanDisk old → Agrees memory dictionary (deposits_in old.committed.trees)) → IsStill old new failed
-    → Remembers memory noted IsRead → (HasCleanDisk old → IsRead dictionary (sents (deposits_in old.committed.trees))) → HasCleanDisk new → failed ≡ false → Agrees noted dictionary (deposits_in new.committed.trees)
-agrees_noted old new memory noted dictionary agrees quiet notes read clean well =
-    let first = clean_before old new quiet.survives clean in
-    subst (λ (db : Database). Agrees noted dictionary (deposits_in db.trees)) (sym (quiet.same clean well).1)
-    (notes.agrees dictionary (deposits_in old.committed.trees) (read first) (agrees first))
-
--- the store that held the list still holds it
-pub keeps_noted : (old new : State) {failed : Bool} (memory noted : Memory) (dictionary : Entries) {IsRead : Entries → List Sent → Type 0} → (HasCleanDisk old → ∥ KeepsRegister old dictionary (length memory.known.items) ∥₁) → IsStill old new failed
-    → Remembers memory noted IsRead → HasCleanDisk new → failed ≡ false → ∥ KeepsRegister new dictionary (length noted.known.items) ∥₁
-keeps_noted old new memory noted dictionary kept quiet notes clean well =
-    subst (λ count. ∥ KeepsRegister new dictionary count ∥₁) (sym notes.long) (keeps_quiet old new kept quiet clean well)

@@ -53,9 +53,9 @@ use Rattle.reg_tables.specs.Formats.{StartsWithMeta}
 use Rattle.reg_tables.specs.Heads.{AreNew, HoldsKnown}
 use Rattle.reg_tables.specs.Memory.{Agrees, Recalls}
 use Rattle.reg_tables.specs.Migrates.{AddsWithdrawals, FindsFirst, HoldsFirst, IsMigrated, MigratedOf, Migrates, RecallsFirst}
-use Rattle.reg_tables.specs.Register.{deposits_in, HoldsSent, IsRegister, IsRegisterOf, marks_of, meta_columns, sents_in, tables, text_in}
+use Rattle.reg_tables.specs.Register.{deposit_rows, deposits_in, HoldsSent, IsRegister, IsRegisterOf, marks_of, meta_columns, sents_in, tables, text_in}
 use Rattle.reg_tables.specs.RegisterLaws.{sents_back}
-use Rattle.reg_tables.specs.Rows.{columns_3, first_column}
+use Rattle.reg_tables.specs.Rows.{columns_3, deposit_table, first_column}
 use Rattle.reg_tables.specs.Tables.{meta, register_schema}
 use Rattle.reg_tables.specs.ReadBack.{read_back}
 use Rattle.reg_tables.proofs.ReadBackLaws.{holds_same, unmarked_register}
@@ -63,7 +63,7 @@ use Rattle.reg_tables.proofs.Texts.{raise_format, select_meta}
 use Rattle.reg_tables.proofs.AddsLemmas.{kept_either}
 use Rattle.reg_tables.proofs.OpenLemmas.{found_tables}
 use Rattle.reg_tables.proofs.QueryLemmas.{fails_so, shown_same}
-use Rattle.reg_tables.proofs.HeadsLemmas.{new_held, new_of_some}
+use Rattle.reg_tables.proofs.HeadsLemmas.{new_held}
 use Rattle.reg_tables.proofs.RepeatsLemmas.{digested_held}
 use Rattle.reg_tables.proofs.StoredText.{text_of_meta}
 
@@ -170,8 +170,8 @@ pub recalled_first : (db : Database) (dictionary : Entries) (count : ℕ) (known
 recalled_first db dictionary count known marks digests memory some are digested below long none same agrees = record {
   sent = subst (λ n. ∥ HoldsFirst db dictionary n ∥₁) (sym long ∙ sym same) some;
   agrees = agrees (map unmarked list)
-      (new_of_some dictionary known (sents (map unmarked list)) (∥∥₁_map some (λ (p : HoldsFirst db dictionary count).
-      subst (AreNew dictionary known) (sym (its p)) (new_held db dictionary known p.0 p.1.deposits are))))
+      (new_held db dictionary known (sents (map unmarked list)) (∥∥₁_map some (λ (p : HoldsFirst db dictionary count).
+      subst (λ (sent : List Sent). IsPermutation (deposit_rows 1 sent) (deposit_table db.trees)) (sym (its p)) p.1.deposits)) are)
       (none ∙ ap (λ n. replicate n false) (sym count_is) ∙ sym (none_marked list))
       (λ k d at. ∥∥₁_elim some (Prim.hlevel props) (λ (p : HoldsFirst db dictionary count).
       subst (AreDigested digests) (sym (its p)) (digested_held db digests p.0 p.1.deposits (subst (λ n. HoldsDigests db (n + 1) digests) (sym p.2) digested)) k d at))

@@ -1,117 +1,163 @@
--- The row of PROJ of a deposit, and the targets of a row, from what the queries show.
-use Rattle.std.proofs.Common.{◌≡◌, ◌⊎◌, inl, inr, ℕ, ◌-◌, ◌<◌, pos, List, [], ◌∷◌, map, take, drop, length, true, Option, Some, None, Ok, Err, Result, IfOk, IfSome, sym, ap, subst, subst₂, ◌∙◌}
-use Rattle.std.specs.Prelude.{◌==◌, slice_get}
-use Rattle.std.specs.List.{list_all}
-use Rattle.std.proofs.lemmas.List.{take-append-drop}
-use Rattle.std.proofs.Math.Logic.{∥∥₁_elim}
-use Rattle.std.specs.List.Sorted.{IsPermutation}
+-- The row of PROJ of a file, and the rows that it reaches.
+use Rattle.std.specs.Prelude.{◌≡◌, ◌==◌, ◌&&◌, ◌||◌, ◌<◌, ℕ, ◌+◌, Bool, true, false, List, [], ◌∷◌, Contains, length, Option, Some, None, slice_get}
+use Rattle.std.specs.List.{list_any}
+use Rattle.std.specs.Str.{bytes_eq}
+use Rattle.std.proofs.Common.{zero, suc, refl, sym, ap, subst, subst₂, ◌∙◌, inl, inr, arith}
+use Rattle.std.proofs.Math.Logic.{∥∥₁_elim, ∥∥₁_map}
 use Rattle.std.proofs.Props.{props}
-use Rattle.sqlite.specs.declared.types.Value.TheVariants.{Int}
-use Rattle.sqlite.specs.Order.{Row}
-use Rattle.sqlite.specs.Effect.{Database}
-use Rattle.sqlite.specs.State.{State, Shown}
-use Rattle.sqlite.specs.Tree.{IsAscending}
-use Rattle.ags_dict.specs.Entries.{Entries}
-use Rattle.ags_links.specs.Steps.{IsBefore}
+use Rattle.std.proofs.lemmas.Bool.{and_parts, cases_lt, eq-eqb, eqb-true}
+use Rattle.std.proofs.lemmas.List.Folds.{list_any_at}
+use Rattle.std.proofs.lemmas.Slice.Eq.{bytes_eq-Decides}
+use mathlib.Core.HLevel.{Σ_prop_path}
 use Rattle.ags_check.specs.Findings.{CheckedFile, IsClean}
-use Rattle.reg_store.specs.declared.keep.KeptRow.{KeptRow}
+use Rattle.ags_links.specs.Walks.{HasStep, IsWalk, Reaches, StepGraph}
+use Rattle.ags_links.proofs.Lemmas.{contains_head, contains_tail}
 use Rattle.reg_store.specs.declared.keep.HeadedRow.{HeadedRow}
-use Rattle.reg_store.specs.declared.keep.KeepError.{KeepError}
-use Rattle.reg_tables.specs.Tables.{HasTables}
-use Rattle.reg_tables.proofs.Texts.{select_front, select_targets}
-use Rattle.reg_store.specs.Sent.{Sent}
-use Rattle.reg_store.specs.Deposit.{sents}
-use Rattle.reg_store.specs.Fit.{IsFileOf, kept_rows}
-use Rattle.reg_tables.specs.Rows.{line_table, step_table, placed_rows, step_pair, rows_under, number_row}
-use Rattle.reg_tables.specs.Register.{deposits_in, KeepsRegister}
-use Rattle.reg_store.specs.Project.{AreProjectRows, headed_rows, project_of, targets_of}
-use Rattle.reg_store.proofs.Lemmas.{alone_rows, headed_count, project_of_front}
-use Rattle.reg_tables.proofs.ReadsProjectLaws.{reads_front, reads_targets, same_targets}
-use Rattle.reg_tables.proofs.ReadsStepsLaws.{same_places}
-use Rattle.reg_tables.specs.Methods.{HoldsLines, HoldsSteps}
-use Rattle.reg_tables.specs.ProjectRows.{AreFrontAt, AreProjectRowsAt, AreReachedAt, AreTargetsAt, IsAloneAt}
-use Rattle.reg_tables.proofs.MethodsLaws.{graph_ascends, held_file, same_file}
+use Rattle.reg_store.specs.declared.keep.KeptRow.{KeptRow}
+use Rattle.reg_store.specs.Fit.{kept_rows}
+use Rattle.reg_store.specs.Project.{AreProjectRows, IsProjectRow, headed_rows, project_of}
+use Rattle.reg_store.proofs.Lemmas.{headed_count}
 
--- ---- what is shown
+-- what is found among a file's rows and steps is so of the file
+pub project_of_file : (file : CheckedFile) (rows : List KeptRow) (graph : StepGraph) (found : List HeadedRow) → IsClean file → rows ≡ kept_rows file.groups → graph ≡ file.graph
+    → (length (headed_rows [] [] rows) ≡ graph.rows → AreProjectRows rows graph.steps found) → AreProjectRows (kept_rows file.groups) file.graph.steps found
+project_of_file file rows graph found clean rows_are graph_is its =
+    subst₂ (λ (all : List KeptRow) (of : StepGraph). length (headed_rows [] [] all) ≡ of.rows → AreProjectRows all of.steps found) rows_are graph_is its (headed_count file clean)
 
-pub front_lines : (old new : State) (n : ℕ) (lines : List KeptRow) → HasTables old.now.schema → (rows : List Row) × Shown select_front (Int (pos n) ∷ []) old new rows × (rows ≡ placed_rows 0 lines)
-    → (file : List KeptRow) → IsPermutation (placed_rows 0 file) (rows_under n (line_table old.now.trees)) → lines ≡ take 5 file
-front_lines old new n lines has shown file are = same_places lines (take 5 file) (sym shown.2 ∙ reads_front old new n file shown.0 has are shown.1)
+-- ---- the first number that passes a test is one, so it is there where it is only known that there is some
 
-pub targets_shown : (old new : State) (n row : ℕ) (targets : List ℕ) → HasTables old.now.schema → (rows : List Row) × Shown select_targets (Int (pos n) ∷ Int (pos row) ∷ []) old new rows × (rows ≡ map number_row targets)
-    → (steps : List (ℕ × ℕ)) → IsAscending IsBefore steps → IsPermutation (map step_pair steps) (rows_under n (step_table old.now.trees)) → targets ≡ targets_of row steps
-targets_shown old new n row targets has shown steps up are = same_targets targets (targets_of row steps) (sym shown.2 ∙ reads_targets old new n row steps shown.0 has up are shown.1)
+abbrev IsFirst : (ℕ → Bool) → ℕ → Type 0
+IsFirst test k = (test k ≡ true) × ((j : ℕ) → j < k → test j ≡ false)
 
--- ---- the first rows of a file
+abbrev First : (ℕ → Bool) → Type 0
+First test = (k : ℕ) × IsFirst test k
 
--- a row of PROJ that is found among the first rows is found among all
-pub front_project : (file front : List KeptRow) (n : ℕ) (row : HeadedRow) → front ≡ take 5 file → project_of front ≡ Some (n, row) → project_of file ≡ Some (n, row)
-front_project file front n row same is =
-    subst (λ (all : List KeptRow). project_of all ≡ Some (n, row)) (take-append-drop 5 file)
-    (project_of_front (take 5 file) (drop 5 file) n row (subst (λ (f : List KeptRow). project_of f ≡ Some (n, row)) same is))
+apart : {A : Type 0} {b : Bool} → b ≡ true → b ≡ false → A
+apart is is_not = let clash : true ≡ false = sym is ∙ is_not in absurd cc
 
--- what is read of a row that is alone
-pub some_alone : (db : Database) (n row place : ℕ) (targets : List ℕ) (found : HeadedRow) (alone : Option HeadedRow) → place ≡ row → AreTargetsAt db n place targets
-    → IfSome alone (λ one. (one ≡ found) × (list_all (λ target. target == place) targets ≡ true))
-    → IfSome alone (λ one. (one ≡ found) × ((all : List ℕ) × AreTargetsAt db n row all × (list_all (λ target. target == row) all ≡ true)))
-some_alone db n row place targets found None same are only = tt
-some_alone db n row place targets found (Some one) same are only =
-    (only.0, (targets, subst (λ (m : ℕ). AreTargetsAt db n m targets) same are, subst (λ (m : ℕ). list_all (λ target. target == m) targets ≡ true) same only.1))
+one_first : (test : ℕ → Bool) (a b : First test) → a ≡ b
+one_first test a b = Σ_prop_path {A = ℕ} {B = IsFirst test} prop {u = a} {v = b} same
+  where
+    prop : (k : ℕ) → IsProp (IsFirst test k)
+    prop k = Prim.hlevel props
 
-pub alone_of : (db mid : Database) (n row : ℕ) (found : HeadedRow) (front : List KeptRow) (alone : Option HeadedRow) → mid ≡ db → AreFrontAt db n front → project_of front ≡ Some (row, found)
-    → IfSome alone (λ one. (one ≡ found) × ((all : List ℕ) × AreTargetsAt mid n row all × (list_all (λ target. target == row) all ≡ true))) → IfSome alone (IsAloneAt db n)
-alone_of db mid n row found front None same first is its = tt
-alone_of db mid n row found front (Some one) same first is its = record {
-  front = front;
-  row = row;
-  targets = its.1.0;
-  first = first;
-  is = is ∙ ap (λ (r : HeadedRow). Some (row, r)) (sym its.0);
-  steps = subst (λ (d : Database). AreTargetsAt d n row its.1.0) same its.1.1;
-  only = its.1.2;
-}
+    same : a.0 ≡ b.0
+    same = elim (cases_lt a.0 b.0) [
+      | inl low ↦ apart a.1.0 (b.1.1 a.0 low)
+      | inr up ↦ elim (cases_lt b.0 a.0) [ inl low ↦ apart b.1.0 (a.1.1 b.0 low) | inr down ↦ omega (arith, up, down) ]
+    ]
 
--- ---- for the methods of the store
+first_from : (test : ℕ → Bool) (n k : ℕ) → ((j : ℕ) → j < k → test j ≡ false) → test (k + n) ≡ true → First test
+first_from test zero k none is = let here : k + zero ≡ k = omega arith in (k, (ap test (sym here) ∙ is, none))
+first_from test (suc n) k none is = go (test k) refl (λ more. first_from test n (k + 1) more (ap test (sym next) ∙ is))
+  where
+    next : k + suc n ≡ (k + 1) + n
+    next = omega arith
 
-targets_set : (a b : List ℕ) → IsProp (a ≡ b)
-targets_set a b = Prim.hlevel props
+    go : (b : Bool) → test k ≡ b → (((j : ℕ) → j < k + 1 → test j ≡ false) → First test) → First test
+    go true here later = (k, (here, none))
+    go false here later = later (λ j low. elim (cases_lt j k) [
+      | inl below ↦ none j below
+      | inr up ↦ (let same : j ≡ k = omega (arith, low, up) in ap test same ∙ here)
+    ])
 
-rows_set : (a b : List KeptRow) → IsProp (a ≡ b)
-rows_set a b = Prim.hlevel props
+from_0 : (n : ℕ) → 0 + n ≡ n
+from_0 n = omega arith
 
-steps_set : (a b : List (ℕ × ℕ)) → IsProp (a ≡ b)
-steps_set a b = Prim.hlevel props
+first_of : (test : ℕ → Bool) → ∥ ((k : ℕ) × (test k ≡ true)) ∥₁ → First test
+first_of test some = ∥∥₁_elim some (one_first test) (λ (p : (k : ℕ) × (test k ≡ true)). first_from test p.0 0 (λ j low. absurd (omega (arith, low))) (ap test (from_0 p.0) ∙ p.1))
 
--- what is read of the file that a register holds of a deposit is so of its file
-read_of : {Y : Type 0} (set : (a b : Y) → IsProp (a ≡ b)) (read : Y) (of : CheckedFile → Y) {s : State} {dictionary : Entries} {count : ℕ} (n : ℕ) → 0 < n → ∥ KeepsRegister s dictionary count ∥₁
-    → ((file : CheckedFile) → IsClean file → HoldsLines s.now n (kept_rows file.groups) → HoldsSteps s.now n file.graph.steps → read ≡ of file)
-    → (d : Sent) (file : CheckedFile) → slice_get (sents (deposits_in s.committed.trees)) (n - 1) ≡ Some d → IsFileOf dictionary d file → read ≡ of file
-read_of {Y} set read of {s} {dictionary} {count} n low kept its d file at own =
-    ∥∥₁_elim kept (set read (of file)) (λ (k : KeepsRegister s dictionary count).
-    (let held = held_file n d k low at in its held.0 held.1.clean held.2 held.3 ∙ ap of (same_file dictionary d held.0 file held.1 own)))
+-- ---- what a list contains, by a test
 
-alone_at : {s : State} {dictionary : Entries} {count : ℕ} (n : ℕ) (row : HeadedRow) → 0 < n → ∥ KeepsRegister s dictionary count ∥₁ → IsAloneAt s.now n row
-    → (d : Sent) (file : CheckedFile) → slice_get (sents (deposits_in s.committed.trees)) (n - 1) ≡ Some d → IsFileOf dictionary d file → AreProjectRows (kept_rows file.groups) file.graph.steps (row ∷ [])
-alone_at {s} {dictionary} {count} n row low kept alone d file at own =
-    let first : alone.front ≡ take 5 (kept_rows file.groups) = read_of rows_set alone.front (λ f. take 5 (kept_rows f.groups)) {s = s} n low kept (λ f clean lines steps. alone.first (kept_rows f.groups) lines) d file at own in
-    let targets : alone.targets ≡ targets_of alone.row file.graph.steps = read_of targets_set alone.targets (λ f. targets_of alone.row f.graph.steps) {s = s} n low kept (λ f clean lines steps. alone.steps f.graph.steps (graph_ascends f clean.graph) steps) d file at own in
-    alone_rows (kept_rows file.groups) file.graph.steps alone.row row (front_project (kept_rows file.groups) alone.front alone.row row first alone.is)
-    (subst (λ (all : List ℕ). list_all (λ target. target == alone.row) all ≡ true) targets alone.only)
+abbrev Passed : {X : Type 0} → (X → Bool) → List X → Type 0
+Passed {X} test xs = (x : X) × Contains xs x × (test x ≡ true)
 
-reached_at : {s : State} {dictionary : Entries} {count : ℕ} (n rows : ℕ) (found : List HeadedRow) → 0 < n → ∥ KeepsRegister s dictionary count ∥₁ → AreReachedAt s.now n rows found
-    → (d : Sent) (file : CheckedFile) → slice_get (sents (deposits_in s.committed.trees)) (n - 1) ≡ Some d → IsFileOf dictionary d file → rows ≡ file.graph.rows → AreProjectRows (kept_rows file.groups) file.graph.steps found
-reached_at {s} {dictionary} {count} n rows found low kept reached d file at own many =
-    let lines : reached.lines ≡ kept_rows file.groups = read_of rows_set reached.lines (λ f. kept_rows f.groups) {s = s} n low kept (λ f clean lines steps. reached.held (kept_rows f.groups) lines) d file at own in
-    let steps : reached.graph.steps ≡ file.graph.steps = read_of steps_set reached.graph.steps (λ f. f.graph.steps) {s = s} n low kept (λ f clean lines steps. reached.steps f.graph.steps (graph_ascends f clean.graph) steps) d file at own in
-    let counted : length (headed_rows [] [] reached.lines) ≡ reached.graph.rows = ap (λ (all : List KeptRow). length (headed_rows [] [] all)) lines ∙ headed_count file own.clean ∙ sym many ∙ sym reached.count in
-    subst₂ (λ (all : List KeptRow) (walks : List (ℕ × ℕ)). AreProjectRows all walks found) lines steps (reached.reached counted)
+passed : {X : Type 0} (test : X → Bool) (xs : List X) → list_any test xs ≡ true → Passed test xs
+passed test [] is = absurd cc
+passed test (x ∷ xs) is = go (test x) refl is (passed test xs)
+  where
+    go : (b : Bool) → test x ≡ b → (b || list_any test xs) ≡ true → (list_any test xs ≡ true → Passed test xs) → Passed test (x ∷ xs)
+    go true here is later = (x, contains_head x xs, here)
+    go false here is later = let at = later is in (at.0, contains_tail x xs at.0 at.1, at.2)
 
-pub project_rows_at : {X : Type 0} (items : X → List HeadedRow) {s : State} {dictionary : Entries} {count : ℕ} (n rows : ℕ) (r : Result X KeepError) → 0 < n → ∥ KeepsRegister s dictionary count ∥₁
-    → ((d : Sent) (file : CheckedFile) → slice_get (sents (deposits_in s.committed.trees)) (n - 1) ≡ Some d → IsFileOf dictionary d file → rows ≡ file.graph.rows)
-    → IfOk r (λ x. AreProjectRowsAt s.now n rows (items x))
-    → IfOk r (λ x. (d : Sent) (file : CheckedFile) → slice_get (sents (deposits_in s.committed.trees)) (n - 1) ≡ Some d → IsFileOf dictionary d file → AreProjectRows (kept_rows file.groups) file.graph.steps (items x))
-project_rows_at items n rows (Err e) low kept many found = tt
-project_rows_at items {s} n rows (Ok x) low kept many (inl one) = λ d file at own.
-    subst (AreProjectRows (kept_rows file.groups) file.graph.steps) (sym one.2) (alone_at {s = s} n one.0 low kept one.1 d file at own)
-project_rows_at items {s} n rows (Ok x) low kept many (inr all) = λ d file at own.
-    reached_at {s = s} n rows (items x) low kept all d file at own (many d file at own)
+passes : {X : Type 0} (test : X → Bool) (xs : List X) (x : X) → Contains xs x → test x ≡ true → list_any test xs ≡ true
+passes test xs x has is = list_any_at test xs has.0 x has.1 (ap test has.2 ∙ is)
+
+both : (a b : Bool) → a ≡ true → b ≡ true → (a && b) ≡ true
+both a b x y = subst₂ (λ (p q : Bool). (p && q) ≡ true) (sym x) (sym y) refl
+
+-- ---- whether so many steps lead to an end
+
+module _ (steps : List (ℕ × ℕ)) (is_end : ℕ → Bool) where
+  abbrev leads : ℕ → ℕ → Bool
+  leads zero r = is_end r
+  leads (suc k) r = list_any (λ step. (step.0 == r) && leads k step.1) steps
+
+  led : (k r : ℕ) → leads k r ≡ true → (m : ℕ) × Reaches (HasStep steps) r m × (is_end m ≡ true)
+  led zero r is = (r, ([], refl), is)
+  led (suc k) r is =
+      let at = passed (λ step. (step.0 == r) && leads k step.1) steps is in
+      let parts = and_parts (at.0.0 == r) (leads k at.0.1) at.2 in
+      let on = led k at.0.1 parts.1 in
+      let from : at.0.0 ≡ r = eqb-true at.0.0 r parts.0 in
+      (on.0, (at.0.1 ∷ on.1.0, (subst (λ (q : ℕ). Contains steps (q, at.0.1)) from at.1, on.1.1)), on.2)
+
+  leads_on : (rows : List ℕ) (r m : ℕ) → IsWalk (HasStep steps) r rows m → is_end m ≡ true → leads (length rows) r ≡ true
+  leads_on [] r m same is = ap is_end same ∙ is
+  leads_on (t ∷ rows) r m walk is = passes (λ step. (step.0 == r) && leads (length rows) step.1) steps (r, t) walk.0 (both _ _ (eq-eqb r r refl) (leads_on rows t m walk.1 is))
+
+-- ---- rows that are only known to be those that are reached are so
+
+abbrev same_row : HeadedRow → HeadedRow → Bool
+same_row a b = bytes_eq a.group b.group && (bytes_eq a.headings b.headings && bytes_eq a.line b.line)
+
+row_same : (a b : HeadedRow) → same_row a b ≡ true → a ≡ b
+row_same a b is =
+    let one = and_parts _ _ is in
+    let two = and_parts _ _ one.1 in
+    λ i. record { group = (bytes_eq-Decides a.group b.group).0 one.0 i; headings = (bytes_eq-Decides a.headings b.headings).0 two.0 i; line = (bytes_eq-Decides a.line b.line).0 two.1 i }
+
+row_itself : (a : HeadedRow) → same_row a a ≡ true
+row_itself a = both _ _ ((bytes_eq-Decides a.group a.group).1 refl) (both _ _ ((bytes_eq-Decides a.headings a.headings).1 refl) ((bytes_eq-Decides a.line a.line).1 refl))
+
+abbrev shows : HeadedRow → Option HeadedRow → Bool
+shows row None = false
+shows row (Some other) = same_row other row
+
+shown : (row : HeadedRow) (o : Option HeadedRow) → shows row o ≡ true → o ≡ Some row
+shown row None is = absurd cc
+shown row (Some other) is = ap (λ (r : HeadedRow). Some r) (row_same other row is)
+
+number_is : {a b : ℕ} {x y : HeadedRow} {o : Option (ℕ × HeadedRow)} → o ≡ Some (a, x) → o ≡ Some (b, y) → a ≡ b
+number_is {a} {b} {x} {y} e f = let pair : (a, x) ≡ (b, y) = cc in ap (λ (p : ℕ × HeadedRow). p.0) pair
+
+none_found : {p : ℕ × HeadedRow} {o : Option (ℕ × HeadedRow)} → o ≡ None → o ≡ Some p → ⊥
+none_found none is = absurd cc
+
+reached : (rows : List KeptRow) (steps : List (ℕ × ℕ)) (row : HeadedRow) → ∥ IsProjectRow rows steps row ∥₁ → IsProjectRow rows steps row
+reached rows steps row some = go (project_of rows) refl
+  where
+    is_end : ℕ → Bool
+    is_end m = shows row (slice_get (headed_rows [] [] rows) m)
+
+    counted : (n : ℕ) (first : HeadedRow) → IsProjectRow rows steps row → project_of rows ≡ Some (n, first) → (k : ℕ) × (leads steps is_end k n ≡ true)
+    counted n first its is =
+        let walk = subst (λ (r : ℕ). Reaches (HasStep steps) r its.0) (number_is its.1.1.1 is) its.1.2 in
+        let end : is_end its.0 ≡ true = ap (shows row) its.2 ∙ row_itself row in
+        (length walk.0, leads_on steps is_end walk.0 n its.0 walk.1 end)
+
+    go : (o : Option (ℕ × HeadedRow)) → project_of rows ≡ o → IsProjectRow rows steps row
+    go None none = absurd (∥∥₁_elim some (Prim.hlevel props) (λ (its : IsProjectRow rows steps row). none_found none its.1.1.1))
+    go (Some (n, first)) is =
+        let found = first_of (λ k. leads steps is_end k n) (∥∥₁_map some (λ (its : IsProjectRow rows steps row). counted n first its is)) in
+        let at = led steps is_end found.0 n found.1.0 in
+        (at.0, (n, (first, is), at.1), shown row (slice_get (headed_rows [] [] rows) at.0) at.2)
+
+pub project_rows_of_some : (rows : List KeptRow) (steps : List (ℕ × ℕ)) (found : List HeadedRow) → ∥ AreProjectRows rows steps found ∥₁ → AreProjectRows rows steps found
+project_rows_of_some rows steps found some row = (λ has. reached rows steps row (∥∥₁_map some (λ are. (are row).0 has)), λ its. listed (∥∥₁_map some (λ are. (are row).1 its)))
+  where
+    listed : ∥ Contains found row ∥₁ → Contains found row
+    listed has =
+        let is : list_any (λ other. same_row other row) found ≡ true = ∥∥₁_elim has (Prim.hlevel props) (λ (h : Contains found row). passes (λ other. same_row other row) found row h (row_itself row)) in
+        let at = passed (λ other. same_row other row) found is in
+        subst (Contains found) (row_same at.0 row at.2) at.1

@@ -26,7 +26,7 @@ use Rattle.reg_tables.specs.RegisterLaws.{rows-length}
 use Rattle.reg_tables.specs.ReadBack.{read_back}
 use Rattle.reg_tables.specs.Rows.{deposit_table}
 use Rattle.reg_tables.proofs.ExamineLemmas.{one_format_in, register_meta}
-use Rattle.reg_tables.proofs.HeadsLemmas.{new_held, new_of_some}
+use Rattle.reg_tables.proofs.HeadsLemmas.{new_held}
 use Rattle.reg_tables.proofs.RepeatsLemmas.{digested_held}
 
 -- so many deposits were sent
@@ -46,8 +46,8 @@ pub recalled : (db : Database) (dictionary : Entries) (count : ℕ) (known : Lis
 recalled db dictionary count known marks digests memory some are digested below long held same agrees = record {
   register = ∥∥₁_map some (λ (p : HoldsSome db dictionary count). (paired p.0 marks, register p, count_is p ∙ sym long ∙ sym same));
   agrees = agrees list
-      (new_of_some dictionary known (sents list) (∥∥₁_map some (λ (p : HoldsSome db dictionary count).
-      subst (AreNew dictionary known) (sent_is p) (new_held db dictionary known p.0 p.1.deposits are))))
+      (new_held db dictionary known (sents list) (∥∥₁_map some (λ (p : HoldsSome db dictionary count).
+      subst (λ (sent : List Sent). IsPermutation (deposit_rows 1 sent) (deposit_table db.trees)) (sent_is p) p.1.deposits)) are)
       (∥∥₁_elim some (Prim.hlevel props) (λ (p : HoldsSome db dictionary count). sym (marks_paired p.0 marks (marks_long p)) ∙ ap marks_of (list_is p)))
       (λ k d at. ∥∥₁_elim some (Prim.hlevel props) (λ (p : HoldsSome db dictionary count).
       subst (AreDigested digests) (sent_is p) (digested_held db digests p.0 p.1.deposits (subst (λ n. HoldsDigests db (n + 1) digests) (sym p.2) digested)) k d at))

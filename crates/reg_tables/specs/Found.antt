@@ -11,7 +11,6 @@ use Rattle.sqlite.specs.Listing.{understood}
 use Rattle.sqlite.specs.State.{State, HasCleanDisk, Shown}
 use Rattle.sqlite.proofs.Callers.{IsPlain}
 use Rattle.ags_links.specs.Steps.{IsBefore}
-use Rattle.reg_store.specs.declared.keep.KeptRow.{KeptRow}
 use Rattle.reg_store.specs.Sent.{Sent, is_repeat}
 use Rattle.reg_tables.specs.declared.schema.format.Format.TheVariants.{Second}
 use Rattle.reg_tables.specs.Rows.{columns_3, deposit_table, has_number}
@@ -19,7 +18,7 @@ use Rattle.reg_tables.specs.Register.{deposit_rows, mark_rows, mark_table, meta_
 use Rattle.reg_tables.specs.Quiet.{FindsThat, IsTheSame}
 use Rattle.reg_tables.specs.Digests.{HasEqual, HasNoEqual, IsRowOf}
 use Rattle.reg_tables.specs.Adopts.{number_rows}
-use Rattle.reg_tables.specs.Methods.{HoldsLines, HoldsSteps}
+use Rattle.reg_tables.specs.Methods.{HoldsSteps}
 use Rattle.reg_tables.specs.Whole.{Tests}
 
 -- On a clean disk, a query of the text only shows rows: it is a statement that has no RETURNING and does not read the
@@ -46,11 +45,6 @@ TakesEachShown result sql params Holds old new =
 -- On a clean disk, what is found are these rows of the tables before the call, in whatever order.
 abbrev pub FindsAll : {A E : Type 0} → Result (Vec A Global) E → (Database → List A) → State → State → Type 0
 FindsAll result rows old new = FindsThat result (λ db found. IsPermutation found.items (rows db)) old new
-
--- On a clean disk, what P says of the lines that the table `lines` held under the number, and of what is found.
-abbrev pub OfLines : {A E : Type 0} → Result A E → ℕ → (List KeptRow → A → Type 0) → State → State → Type 0
-OfLines result n P old new =
-    FindsThat result (λ db found. (file : List KeptRow) → HoldsLines db n file → P file found) old new
 
 -- On a clean disk, what P says of the rising steps that the table `steps` held under the number, and of what is found.
 abbrev pub OfSteps : {A E : Type 0} → Result A E → ℕ → (List (ℕ × ℕ) → A → Type 0) → State → State → Type 0

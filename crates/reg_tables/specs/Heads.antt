@@ -1,16 +1,18 @@
 -- What is known of each deposit as a register is examined. No promise is made of these words; `Agrees` uses some.
-use Rattle.std.specs.Prelude.{◌≡◌, ℕ, ◌+◌, Bool, true, false, List, [], ◌∷◌, ◌++◌, Some, None, slice_get, Result, Ok}
+use Rattle.std.specs.Prelude.{◌≡◌, ℕ, ◌+◌, Bool, true, false, List, [], ◌∷◌, ◌++◌, Some, slice_get, Result, Ok}
+use Rattle.std.specs.Option.{ForSome}
 use Rattle.std.specs.declared.alloc.Global.{Global}
 use Rattle.std.specs.declared.vec.Vec.{Vec}
 use Rattle.sqlite.specs.Effect.{Database}
 use Rattle.sqlite.specs.State.{State, HasCleanDisk}
 use Rattle.ags_dict.specs.Entries.{Entries}
+use Rattle.ags_check.specs.Findings.{CheckedFile}
 use Rattle.reg_tables.specs.declared.open.head.DigestedHead.{DigestedHead}
 use Rattle.reg_tables.specs.declared.memory.Known.{Known}
 use Rattle.reg_tables.specs.declared.memory.digests.Digests.{Digests}
-use Rattle.reg_tables.specs.declared.memory.room.Size.{Size}
+use Rattle.reg_tables.specs.declared.memory.file.KnownFile.{KnownFile}
 use Rattle.reg_store.specs.declared.keep.KeptHead.{KeptHead}
-use Rattle.reg_store.specs.Reading.{OfFile}
+use Rattle.reg_store.specs.Reading.{HasProjectRows, OfFile}
 use Rattle.reg_store.specs.Sent.{Sent}
 use Rattle.reg_tables.specs.Digests.{AddsNumber, IsRowOf, own_digest}
 
@@ -18,18 +20,19 @@ use Rattle.reg_tables.specs.Digests.{AddsNumber, IsRowOf, own_digest}
 abbrev pub head_of : Sent → KeptHead
 head_of d = record { firm = d.firm; project = d.project; embargo = d.embargo; withdrawn = false }
 
--- Of a deposit of this head, which has so much, nothing was read.
-abbrev pub new_known : KeptHead → Size → Known
-new_known head size = record { head = head; size = size; project = None }
+-- This is known of the file: its number of DATA rows, and, if they are held, its row of PROJ and the rows that it reaches.
+pub record IsKnownOf (file : CheckedFile) (known : KnownFile) : Type 0 where
+  pub rows : known.size.rows ≡ file.graph.rows
+  pub project : ForSome known.project (λ held. ∥ HasProjectRows held file ∥₁)
 
--- The size has the number of DATA rows of the deposit's file.
-abbrev pub IsSizeOf : Entries → Sent → Size → Type 0
-IsSizeOf dictionary d size = OfFile dictionary d (λ file. size.rows ≡ file.graph.rows)
+-- This is known of the deposit's file.
+abbrev pub KnowsFile : Entries → Sent → KnownFile → Type 0
+KnowsFile dictionary d known = OfFile dictionary d (λ file. IsKnownOf file known)
 
--- This is known of the deposit: its head, as of one without a mark, and its size.
+-- This is known of the deposit: its head, as of one without a mark, and what is known of its file.
 pub record IsNewOf (dictionary : Entries) (d : Sent) (one : Known) : Type 0 where
-  pub known : one ≡ new_known (head_of d) one.size
-  pub size : IsSizeOf dictionary d one.size
+  pub head : one.head ≡ head_of d
+  pub file : KnowsFile dictionary d one.file
 
 -- This is known of the deposits, in their order.
 abbrev pub AreNew : Entries → List Known → List Sent → Type 0

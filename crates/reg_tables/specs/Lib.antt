@@ -7,7 +7,6 @@ pub mod Filed
 pub mod Register
 pub mod Quiet
 pub mod Commits
-pub mod ProjectRows
 pub mod Pushes
 pub mod RegisterLaws
 pub mod Marks

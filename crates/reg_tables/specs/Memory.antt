@@ -1,11 +1,9 @@
 -- What is known of the deposits without the tables, and that it agrees with the list of deposits. No promise is made of
 -- these words; the type `SqlKeep` keeps `Agrees`.
-use Rattle.std.specs.Prelude.{◌≡◌, ◌<◌, ◌≤◌, ◌+◌, ℕ, Bool, List, [], ◌∷◌, ◌++◌, length, IsSome, Some, slice_get}
+use Rattle.std.specs.Prelude.{◌≡◌, ◌<◌, ◌+◌, ℕ, Bool, List, [], ◌∷◌, ◌++◌, length, IsSome, Some, slice_get}
 use Rattle.std.specs.Prelude.{vec_len, vec_capacity}
-use Rattle.std.specs.Option.{ForSome}
 use Rattle.ags_dict.specs.Entries.{Entries}
 use Rattle.reg_store.specs.declared.keep.KeptHead.{KeptHead}
-use Rattle.reg_store.specs.Reading.{HasProjectRows, OfFile}
 use Rattle.reg_store.specs.Sent.{Sent}
 use Rattle.reg_store.specs.Deposit.{Deposit, sents}
 use Rattle.reg_tables.specs.declared.memory.Coming.{Coming}
@@ -14,17 +12,16 @@ use Rattle.reg_tables.specs.declared.memory.Memory.{Memory}
 use Rattle.sqlite.specs.Effect.{Database}
 use Rattle.reg_tables.specs.Register.{IsRegister, deposits_in}
 use Rattle.reg_tables.specs.Digests.{AreBelow, AreDigested, found_at, numbers_under, own_digest}
-use Rattle.reg_tables.specs.Heads.{IsSizeOf, head_of, new_known}
+use Rattle.reg_tables.specs.Heads.{KnowsFile, head_of}
 
 -- the head with this mark
 abbrev pub with_mark : KeptHead → Bool → KeptHead
 with_mark head mark = record { firm = head.firm; project = head.project; embargo = head.embargo; withdrawn = mark }
 
--- What is known of a deposit is its head with its mark and its size, and what was read is what its file has.
+-- This is known of the deposit: its head with its mark, and what is known of its file.
 pub record IsKnown (dictionary : Entries) (d : Deposit) (one : Known) : Type 0 where
   pub head : one.head ≡ with_mark (head_of d.sent) d.withdrawn
-  pub size : IsSizeOf dictionary d.sent one.size
-  pub project : ForSome one.project (λ rows. OfFile dictionary d.sent (HasProjectRows rows))
+  pub file : KnowsFile dictionary d.sent one.file
 
 -- Of each deposit this is known, in the order of the list.
 pub record AreKnown (dictionary : Entries) (list : List Deposit) (known : List Known) : Type 0 where
@@ -44,12 +41,6 @@ pub record Recalls (db : Database) (dictionary : Entries) (memory : Memory) : Ty
       × (length list ≡ length memory.known.items)) ∥₁
   pub agrees : Agrees memory dictionary (deposits_in db.trees)
 
--- As many deposits are known, and what agreed with a list still does, if this is so of it.
-pub record Remembers (old new : Memory) (IsRead : Entries → List Sent → Type 0) : Type 0 where
-  pub long : length new.known.items ≡ length old.known.items
-  pub agrees : (dictionary : Entries) (list : List Deposit) → IsRead dictionary (sents list)
-      → Agrees old dictionary list → Agrees new dictionary list
-
 -- There is room for one deposit more.
 pub record HasRoom (memory : Memory) (coming : Coming) : Type 0 where
   pub known : vec_len memory.known < vec_capacity memory.known
@@ -57,7 +48,7 @@ pub record HasRoom (memory : Memory) (coming : Coming) : Type 0 where
 
 -- This deposit is to come next.
 pub record IsComing (memory : Memory) (d : Sent) (coming : Coming) : Type 0 where
-  pub known : coming.known ≡ new_known (head_of d) coming.known.size
+  pub head : coming.known.head ≡ head_of d
   pub digest : coming.digest ≡ own_digest d
   pub numbers : coming.numbers.items
       ≡ numbers_under memory.digests (own_digest d) ++ (length memory.known.items + 1) ∷ []

@@ -8,22 +8,22 @@ ghost use Rattle.sqlite.specs.Held.{state};
 ghost use Rattle.reg_tables.specs.Memory.{Agrees};
 ghost use Rattle.reg_tables.specs.Register.{deposits_in, KeepsIfClean, KeepsRegister, LeavesBroken, LeavesList, text_in};
 
-use crate::memory::{Memory, copied_rows};
 use crate::memory::digests::digest_of;
-use crate::memory::room::Size;
+use crate::memory::file::KnownFile;
+use crate::memory::{Memory, copied_rows};
 use crate::read::equal::read_equal;
 use crate::read::graph::read_graph;
 use crate::read::lines::read_lines;
-use crate::read::project::read_project_rows;
 use crate::read::read_deposit;
 use crate::write::add_checked;
 use crate::write::change::change_tables;
+use crate::write::lines::few_rows;
 use crate::write::mark::NewMark;
 use ags_check::Checked;
 use ags_dict::Dictionary;
 use ags_links::Graph;
 use reg_policy::{Day, Name};
-use reg_store::{HeadedRow, Keep, KeepError, Kept, KeptHead, KeptRow, MOST, NextStart};
+use reg_store::{HeadedRow, Keep, KeepError, Kept, KeptHead, KeptRow, MOST, NextStart, project_rows_in};
 use sqlite::{Alter, Connection};
 use std::alloc::Global;
 
@@ -89,21 +89,22 @@ impl<S: Alter> Keep for SqlKeep<S> {
         if count >= MOST {
             return Err(KeepError::Full);
         }
-        let size = Size::of(checked);
+        let rows = few_rows(self.alloc, checked.scan().groups())?;
+        let file = KnownFile::of(self.alloc, checked, &rows)?;
         let room = self
             .memory
-            .make_room(self.alloc, firm, project, embargo, checked.bytes(), size);
+            .make_room(self.alloc, firm, project, embargo, checked.bytes(), file);
         let Ok(coming) = room else {
             return Err(KeepError::NoMemory);
         };
         let added = add_checked(
-            self.alloc,
             &mut self.connection,
             count + 1,
             firm,
             project,
             embargo,
             checked,
+            &rows,
         );
         match added {
             Ok(()) => {
@@ -162,11 +163,10 @@ impl<S: Alter> Keep for SqlKeep<S> {
             let copied = copied_rows(self.alloc, rows)?;
             return Ok(copied);
         }
-        let rows = self.memory.row_count(n);
-        let found = read_project_rows(&mut self.connection, self.alloc, n, rows);
-        self.has_failed = has_store_error(&found);
-        self.memory.note_project(self.alloc, n, &found);
-        found
+        let rows = self.rows(n)?;
+        let graph = self.steps(n)?;
+        let found = project_rows_in(self.alloc, &rows, &graph)?;
+        Ok(found)
     }
 
     fn numbers(&mut self, project: &Name) -> Result<Vec<u32>, KeepError> {

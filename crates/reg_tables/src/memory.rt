@@ -8,15 +8,17 @@ ghost use Rattle.reg_store.specs.Reading.{HasProjectRows, IsHeadAt};
 ghost use Rattle.reg_store.specs.Deposit.{Deposit, marked, sents, unmarked};
 ghost use Rattle.reg_store.specs.Sent.{Sent, numbers_from};
 ghost use Rattle.reg_tables.specs.Digests.{AreBelow, AreDigested, numbers_under};
-ghost use Rattle.reg_tables.specs.Heads.{AreNew, IsSizeOf};
+ghost use Rattle.reg_tables.specs.Heads.{AreNew, KnowsFile};
 ghost use Rattle.reg_tables.specs.Register.{marks_of};
 ghost use Rattle.reg_tables.specs.Rows.{deposit_from};
 
 pub(crate) mod digests;
+pub(crate) mod file;
 pub(crate) mod room;
 
 use crate::memory::digests::{Digests, digest_of};
-use crate::memory::room::{Room, Size, Totals};
+use crate::memory::file::KnownFile;
+use crate::memory::room::{Room, Totals};
 use reg_policy::{Day, Name};
 use reg_store::{HeadedRow, KeepError, KeptHead};
 use std::alloc::{AllocError, Global};
@@ -28,15 +30,13 @@ pub(crate) struct Memory {
     known: Vec<Known>,
     /// The numbers of the deposits of each digest.
     digests: Digests,
-    /// How many rows of PROJ there are.
-    projects: u32,
     /// How much the register had and has.
     room: Room,
     ghost few: { length known.items ≤ 999999 },
 }
 
 impl Memory {
-    ghost use Rattle.reg_tables.specs.Memory.{Agrees, HasRoom, IsComing, Remembers};
+    ghost use Rattle.reg_tables.specs.Memory.{Agrees, HasRoom, IsComing};
 
     /// No deposit is known, of a register whose dictionary has so many bytes.
     pub(crate) fn new(alloc: Global, dictionary_bytes: usize) -> Memory
@@ -46,7 +46,6 @@ impl Memory {
         Memory {
             known: Vec::new(alloc),
             digests: Digests::new(alloc),
-            projects: 0,
             room: Room::of_new(dictionary_bytes),
         }
     }
@@ -69,12 +68,11 @@ impl Memory {
         let mut totals = Totals::of_dictionary(dictionary_bytes);
         for at in 0..known.len() {
             known[at].head.withdrawn = marks[at];
-            totals = totals.with(known[at].size);
+            totals = totals.with(known[at].file.size);
         }
         Memory {
             known,
             digests,
-            projects: 0,
             room: Room::of_opened(totals),
         }
     }
@@ -131,7 +129,7 @@ impl Memory {
             → OfDeposit dictionary (sents list) n (λ file. result ≡ file.graph.rows) }
     {
         if self.is_known(n) {
-            self.known[n as usize - 1].size.rows
+            self.known[n as usize - 1].file.size.rows
         } else {
             0
         }
@@ -162,7 +160,7 @@ impl Memory {
         self.digests.of(digest)
     }
 
-    /// The row of PROJ of deposit n, and the rows that it reaches.
+    /// The row of PROJ of deposit n, and the rows that it reaches, if they are in memory.
     pub(crate) fn held_project(&self, n: u32) -> Option<&Vec<HeadedRow>>
         ensures { (dictionary : Entries) (list : List Deposit) → Agrees self.now dictionary list
             → IfSome result (λ rows. OfDeposit dictionary (sents list) n (HasProjectRows rows.now)) }
@@ -170,32 +168,9 @@ impl Memory {
         if !self.is_known(n) {
             return None;
         }
-        match &self.known[n as usize - 1].project {
+        match &self.known[n as usize - 1].file.project {
             Some(rows) => Some(rows),
             None => None,
-        }
-    }
-
-    /// Keeps the row of PROJ that was read of deposit n, with the rows that it reaches, if they are short and there is
-    /// room for them.
-    pub(crate) fn note_project(
-        &mut self,
-        alloc: Global,
-        n: u32,
-        read: &Result<Vec<HeadedRow>, KeepError>,
-    )
-        ensures { Remembers self.old self.new (λ dictionary list. IfOk read.now (λ found.
-            OfDeposit dictionary list n (HasProjectRows found))) }
-    {
-        let Ok(found) = read else {
-            return;
-        };
-        if self.projects >= MOST_PROJECTS || !are_short(found) || !self.is_known(n) {
-            return;
-        }
-        if let Ok(rows) = copied_rows(alloc, found) {
-            self.projects += 1;
-            self.known[n as usize - 1].project = Some(rows);
         }
     }
 
@@ -208,16 +183,16 @@ impl Memory {
         project: &Name,
         embargo: Day,
         bytes: &[u8],
-        size: Size,
+        file: KnownFile,
     ) -> Result<Coming, AllocError>
         ensures same { length self.new.known.items ≡ length self.old.known.items }
         ensures agrees { (dictionary : Entries) (list : List Deposit) → Agrees self.old dictionary list
             → Agrees self.new dictionary list }
         ensures room { IfOk result (HasRoom self.new) }
         ensures coming { IfOk result (IsComing self.new (deposit_from firm.now project.now embargo bytes.now)) }
-        ensures size { IfOk result (λ coming. coming.known.size ≡ size) }
+        ensures file { IfOk result (λ coming. coming.known.file ≡ file) }
     {
-        self.room.with(size).try_start(alloc)?;
+        self.room.with(file.size).try_start(alloc)?;
         let head = KeptHead {
             firm: firm.clone()?,
             project: project.clone()?,
@@ -229,11 +204,7 @@ impl Memory {
         let numbers = self.digests.make_room(alloc, &digest, number)?;
         self.known.reserve(1)?;
         Ok(Coming {
-            known: Known {
-                head,
-                size,
-                project: None,
-            },
+            known: Known { head, file },
             digest,
             numbers,
         })
@@ -244,7 +215,8 @@ impl Memory {
         requires few { length self.old.known.items < 999999 }
         requires room { HasRoom self.old coming }
         ensures agrees { (dictionary : Entries) (list : List Deposit) (d : Sent) → IsComing self.old d coming
-            → IsSizeOf dictionary d coming.known.size → Agrees self.old dictionary list → Agrees self.new dictionary (list ++ unmarked d ∷ []) }
+            → KnowsFile dictionary d coming.known.file → Agrees self.old dictionary list
+            → Agrees self.new dictionary (list ++ unmarked d ∷ []) }
         ensures long { length self.new.known.items ≡ length self.old.known.items + 1 }
     {
         let Coming {
@@ -252,7 +224,7 @@ impl Memory {
             digest,
             numbers,
         } = coming;
-        self.room = self.room.with(known.size);
+        self.room = self.room.with(known.file.size);
         self.known.push_reserved(known);
         self.digests.note(digest, numbers);
     }
@@ -273,9 +245,7 @@ impl Memory {
 #[derive(Drop)]
 pub(crate) struct Known {
     pub(crate) head: KeptHead,
-    pub(crate) size: Size,
-    /// Its row of PROJ and the rows that it reaches, if these were read.
-    pub(crate) project: Option<Vec<HeadedRow>>,
+    pub(crate) file: KnownFile,
 }
 
 /// What is found of a register as it is examined.
@@ -309,27 +279,6 @@ pub(crate) struct Coming {
     digest: [u8; 32],
     /// The numbers of its digest, its own the last of them.
     numbers: Vec<u32>,
-}
-
-/// The most rows of PROJ in memory.
-const MOST_PROJECTS: u32 = 65_536;
-
-/// The most bytes of a row of PROJ in memory, with the rows that it reaches.
-const MOST_PROJECT_BYTES: usize = 2_048;
-
-/// Whether the rows are so short that they may be in memory.
-fn are_short(rows: &[HeadedRow]) -> bool {
-    let mut bytes: usize = 0;
-    for row in rows {
-        bytes = bytes
-            .saturating_add(row.group.as_slice().len())
-            .saturating_add(row.headings.as_slice().len())
-            .saturating_add(row.line.as_slice().len());
-        if bytes > MOST_PROJECT_BYTES {
-            return false;
-        }
-    }
-    true
 }
 
 /// The rows, once more.

@@ -12,10 +12,8 @@ pub(crate) mod equal;
 pub(crate) mod gather;
 pub(crate) mod graph;
 pub(crate) mod lines;
-pub(crate) mod project;
 pub(crate) mod queries;
 pub(crate) mod rows;
-pub(crate) mod targets;
 
 use crate::read::queries::query;
 use crate::read::rows::deposit_in;

@@ -1,10 +1,10 @@
 //! Adds a checked file to the tables as a deposit.
 
-ghost use Rattle.std.specs.Prelude.{◌≡◌, ◌≢◌, pos, false, IsTrue, IfErr};
+ghost use Rattle.std.specs.Prelude.{◌≡◌, ◌≢◌, ◌<◌, ◌^◌, length, pos, false, IsTrue, IfErr};
 ghost use Rattle.sqlite.specs.State.{HasCleanDisk};
 ghost use Rattle.sqlite.specs.Held.{state};
 ghost use Rattle.reg_policy.specs.Days.{is_day_number};
-ghost use Rattle.reg_store.specs.Fit.{IsNamed};
+ghost use Rattle.reg_store.specs.Fit.{IsNamed, kept_rows};
 ghost use Rattle.reg_store.specs.Keep.{fails};
 ghost use Rattle.reg_tables.specs.Commits.{CommitsAll, UndoesUnlessFailed};
 ghost use Rattle.reg_tables.specs.Filed.{AddsChecked, SurvivesAdding};
@@ -21,23 +21,23 @@ pub(crate) mod steps;
 
 use crate::write::change::change_tables;
 use crate::write::filed::Filed;
-use crate::write::lines::few_rows;
 use ags_check::Checked;
 use reg_policy::{Day, Name};
-use reg_store::KeepError;
+use reg_store::{KeepError, KeptRow};
 use sqlite::{Alter, Connection};
-use std::alloc::Global;
 
-/// Adds a checked file under a number, with its rows and steps. `NoMemory` is answered only where nothing changed.
+/// Adds a checked file under a number, with its steps and these, its rows. `NoMemory` is answered only where nothing changed.
 pub(crate) fn add_checked<S: Alter>(
-    alloc: Global,
     conn: &mut Connection<S>,
     number: u32,
     firm: &Name,
     project: &Name,
     embargo: Day,
     checked: &Checked<'_>,
+    rows: &[KeptRow],
 ) -> Result<(), KeepError>
+    requires rows { rows.now ≡ kept_rows checked.now.groups }
+    requires few { length rows.now < 2 ^ 32 }
     requires idle { IsIdle (state S.Store conn.old) }
     requires schema { HasCleanDisk (state S.Store conn.old) → (state S.Store conn.old).now.schema ≡ register_schema }
     requires is_open { HasCleanDisk (state S.Store conn.old) → IsTrue (state S.Store conn.old).is_open }
@@ -62,16 +62,13 @@ pub(crate) fn add_checked<S: Alter>(
     let firm_text = firm.text();
     let project_text = project.text();
     let day = stored_day(embargo);
-    let Ok(rows) = few_rows(alloc, checked.scan().groups()) else {
-        return Err(KeepError::NoMemory);
-    };
     let filed = Filed {
         number,
         firm: firm_text,
         project: project_text,
         embargo: day,
         body: checked.bytes(),
-        rows: &rows,
+        rows,
         steps: checked.graph().steps(),
     };
     change_tables(conn, &filed)

@@ -8,7 +8,7 @@ use std::alloc::{AllocError, Global};
 /// How much a deposit has.
 #[derive(Clone, Copy)]
 pub(crate) struct Size {
-    /// Bytes of its body.
+    /// Bytes of its body, and those that its row of PROJ and the rows that it reaches take in memory.
     pub bytes: usize,
     /// Rows that are kept of it, of each kind.
     pub lines: usize,
@@ -19,14 +19,14 @@ pub(crate) struct Size {
 }
 
 impl Size {
-    /// That of a checked file.
-    pub(crate) fn of(file: &Checked<'_>) -> Size
+    /// That of a checked file which has so many bytes, with those that rows in memory take.
+    pub(crate) fn of(file: &Checked<'_>, bytes: usize) -> Size
         ensures { result.rows ≡ file.now.graph.rows }
     {
         let rows = file.graph().rows();
         let headers = file.scan().groups().len().saturating_mul(HEADER_ROWS);
         Size {
-            bytes: file.bytes().len(),
+            bytes,
             lines: headers.saturating_add(rows as usize),
             rows,
             steps: file.graph().steps().len(),

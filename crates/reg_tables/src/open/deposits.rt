@@ -10,7 +10,7 @@ ghost use Rattle.reg_store.specs.Keep.{fails, sent_of};
 ghost use Rattle.reg_tables.specs.Quiet.{IsIdle, IsStill, FindsThat};
 ghost use Rattle.reg_tables.specs.Found.{FindsOneIf, FindsOut, OnYes};
 ghost use Rattle.reg_tables.specs.Rows.{given_deposit};
-ghost use Rattle.reg_tables.specs.Heads.{AddsKnown, HoldsKnown, IsDigestedAt, IsDigestedFrom, IsSizeOf};
+ghost use Rattle.reg_tables.specs.Heads.{AddsKnown, HoldsKnown, IsDigestedAt, IsDigestedFrom, IsKnownOf, KnowsFile};
 ghost use Rattle.reg_tables.specs.Digests.{AreBelow, HoldsDigests, IsNew, numbers_under, own_digest};
 ghost use Rattle.reg_store.specs.Fit.{IsNamed, kept_rows};
 ghost use Rattle.reg_store.specs.Sent.{Sent};
@@ -19,7 +19,7 @@ ghost use Rattle.reg_tables.specs.Methods.{HoldsLines, HoldsSteps};
 
 use crate::memory::Known;
 use crate::memory::digests::{Digests, digest_of};
-use crate::memory::room::Size;
+use crate::memory::file::KnownFile;
 use crate::open::compare::{SameLines, SameSteps, are_all};
 use crate::open::head::{DigestedHead, into_known};
 use crate::read::equal::read_equal;
@@ -174,8 +174,8 @@ fn kept_head<S: Alter>(
 {
     let digest = digest_of(&kept.firm, &kept.project, kept.bytes.as_slice());
     match examine_kept(conn, alloc, dictionary, number, &kept, digests.of(&digest)) {
-        Ok(Some(size)) => Ok(Some(DigestedHead {
-            known: into_known(kept, size),
+        Ok(Some(file)) => Ok(Some(DigestedHead {
+            known: into_known(kept, file),
             digest,
         })),
         Ok(None) => Ok(None),
@@ -183,8 +183,8 @@ fn kept_head<S: Alter>(
     }
 }
 
-/// How much the deposit has, if it has no finding, its lines and steps are kept, and none of these numbers is that of an
-/// equal one.
+/// What is known of the deposit's file, if it has no finding, its lines and steps are kept, and none of these numbers is
+/// that of an equal deposit.
 fn examine_kept<S: Alter>(
     conn: &mut Connection<S>,
     alloc: Global,
@@ -192,22 +192,22 @@ fn examine_kept<S: Alter>(
     number: u32,
     kept: &Kept,
     numbers: &[u32],
-) -> Result<Option<Size>, KeepError>
+) -> Result<Option<KnownFile>, KeepError>
     requires idle { IsIdle (state S.Store conn.old) }
     ensures tested { FindsOneIf result (λ db. HoldsBody db dictionary.now number (sent_of kept.now)
         × IsNew db numbers.now (sent_of kept.now))
         (state S.Store conn.old) (state S.Store conn.new) }
-    ensures size { IfOk result (λ found. IfSome found (IsSizeOf dictionary.now (sent_of kept.now))) }
+    ensures known { IfOk result (λ found. IfSome found (KnowsFile dictionary.now (sent_of kept.now))) }
     ensures refused { IfErr result (λ e. e ≢ KeepError.Full) }
     ensures quiet { IsStill (state S.Store conn.old) (state S.Store conn.new) (fails result) }
 {
-    let size = match examine_body(conn, alloc, dictionary, number, kept) {
-        Ok(Some(size)) => size,
+    let file = match examine_body(conn, alloc, dictionary, number, kept) {
+        Ok(Some(file)) => file,
         Ok(None) => return Ok(None),
         Err(error) => return Err(error),
     };
     match examine_repeats(conn, alloc, numbers, kept) {
-        Ok(true) => Ok(Some(size)),
+        Ok(true) => Ok(Some(file)),
         Ok(false) => Ok(None),
         Err(error) => Err(error),
     }
@@ -240,19 +240,19 @@ fn examine_repeats<S: Alter>(
     }
 }
 
-/// How much the deposit has, if it has no finding and is not too long, and the lines and steps of its file are those
-/// that are kept of it.
+/// What is known of the deposit's file, if it has no finding and is not too long, and its lines and steps are those that
+/// are kept.
 fn examine_body<S: Alter>(
     conn: &mut Connection<S>,
     alloc: Global,
     dictionary: &Dictionary,
     number: u32,
     kept: &Kept,
-) -> Result<Option<Size>, KeepError>
+) -> Result<Option<KnownFile>, KeepError>
     requires idle { IsIdle (state S.Store conn.old) }
     ensures tested { FindsOneIf result (λ db. HoldsBody db dictionary.now number (sent_of kept.now))
         (state S.Store conn.old) (state S.Store conn.new) }
-    ensures size { IfOk result (λ found. IfSome found (IsSizeOf dictionary.now (sent_of kept.now))) }
+    ensures known { IfOk result (λ found. IfSome found (KnowsFile dictionary.now (sent_of kept.now))) }
     ensures refused { IfErr result (λ e. e ≢ KeepError.Full) }
     ensures quiet { IsStill (state S.Store conn.old) (state S.Store conn.new) (fails result) }
 {
@@ -261,53 +261,38 @@ fn examine_body<S: Alter>(
         return Ok(None);
     }
     match check(alloc, dictionary, bytes) {
-        Ok(file) => checked_size(conn, alloc, number, &file),
+        Ok(file) => examine_checked(conn, alloc, number, &file),
         Err(CheckError::Findings(_found)) => Ok(None),
         Err(CheckError::NoMemory) => Err(KeepError::NoMemory),
     }
 }
 
-/// How much this file has, if the lines and steps that are kept of a deposit are its own.
-fn checked_size<S: Alter>(
-    conn: &mut Connection<S>,
-    alloc: Global,
-    number: u32,
-    file: &Checked<'_>,
-) -> Result<Option<Size>, KeepError>
-    requires idle { IsIdle (state S.Store conn.old) }
-    requires clean { IsClean file.now }
-    ensures tested { FindsOneIf result (λ db. HoldsLines db number (kept_rows file.now.groups)
-        × HoldsSteps db number file.now.graph.steps)
-        (state S.Store conn.old) (state S.Store conn.new) }
-    ensures size { IfOk result (λ found. IfSome found (λ size. size.rows ≡ file.now.graph.rows)) }
-    ensures refused { IfErr result (λ e. e ≢ KeepError.Full) }
-    ensures quiet { IsStill (state S.Store conn.old) (state S.Store conn.new) (fails result) }
-{
-    match examine_checked(conn, alloc, number, file) {
-        Ok(true) => Ok(Some(Size::of(file))),
-        Ok(false) => Ok(None),
-        Err(error) => Err(error),
-    }
-}
-
-/// Whether the lines and steps that are kept of a deposit are those of this file.
+/// What is known of this file, if the lines and steps that are kept of a deposit are its own.
 fn examine_checked<S: Alter>(
     conn: &mut Connection<S>,
     alloc: Global,
     number: u32,
     file: &Checked<'_>,
-) -> Result<bool, KeepError>
+) -> Result<Option<KnownFile>, KeepError>
     requires idle { IsIdle (state S.Store conn.old) }
     requires clean { IsClean file.now }
-    ensures tested { FindsOut result (λ db. HoldsLines db number (kept_rows file.now.groups)
+    ensures tested { FindsOneIf result (λ db. HoldsLines db number (kept_rows file.now.groups)
         × HoldsSteps db number file.now.graph.steps)
         (state S.Store conn.old) (state S.Store conn.new) }
+    ensures known { IfOk result (λ found. IfSome found (IsKnownOf file.now)) }
     ensures refused { IfErr result (λ e. e ≢ KeepError.Full) }
     ensures quiet { IsStill (state S.Store conn.old) (state S.Store conn.new) (fails result) }
 {
-    match few_rows(alloc, file.scan().groups()) {
-        Ok(lines) => examine_file(conn, number, lines.as_slice(), file.graph().steps()),
-        Err(_) => Err(KeepError::NoMemory),
+    let Ok(lines) = few_rows(alloc, file.scan().groups()) else {
+        return Err(KeepError::NoMemory);
+    };
+    let Ok(known) = KnownFile::of(alloc, file, &lines) else {
+        return Err(KeepError::NoMemory);
+    };
+    match examine_file(conn, number, &lines, file.graph().steps()) {
+        Ok(true) => Ok(Some(known)),
+        Ok(false) => Ok(None),
+        Err(error) => Err(error),
     }
 }
 

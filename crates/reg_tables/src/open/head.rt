@@ -2,10 +2,10 @@
 
 ghost use Rattle.std.specs.Prelude.{◌≡◌};
 ghost use Rattle.reg_store.specs.Keep.{sent_of};
-ghost use Rattle.reg_tables.specs.Heads.{head_of, new_known};
+ghost use Rattle.reg_tables.specs.Heads.{head_of};
 
 use crate::memory::Known;
-use crate::memory::room::Size;
+use crate::memory::file::KnownFile;
 use reg_store::{Kept, KeptHead};
 
 /// What is known of a deposit, with its digest.
@@ -15,9 +15,10 @@ pub(crate) struct DigestedHead {
     pub digest: [u8; 32],
 }
 
-/// What is known of a deposit of this size, whose bytes are dropped. It has no mark: the marks are read later.
-pub(crate) fn into_known(kept: Kept, size: Size) -> Known
-    ensures { result ≡ new_known (head_of (sent_of kept)) size }
+/// What is known of a deposit of this file, whose bytes are dropped. It has no mark: the marks are read later.
+pub(crate) fn into_known(kept: Kept, file: KnownFile) -> Known
+    ensures head { result.head ≡ head_of (sent_of kept) }
+    ensures file { result.file ≡ file }
 {
     let Kept {
         firm,
@@ -33,7 +34,6 @@ pub(crate) fn into_known(kept: Kept, size: Size) -> Known
             embargo,
             withdrawn: false,
         },
-        size,
-        project: None,
+        file,
     }
 }

@@ -9,7 +9,7 @@ ghost use Rattle.reg_policy.specs.Days.{is_day_number};
 ghost use Rattle.reg_store.specs.Reading.{HasKind};
 ghost use Rattle.reg_store.specs.Sent.{Sent};
 ghost use Rattle.reg_store.specs.Keep.{sent_of};
-ghost use Rattle.reg_tables.specs.Rows.{given_deposit, placed_row, placed_rows, step_pair, number_row};
+ghost use Rattle.reg_tables.specs.Rows.{given_deposit, placed_row, placed_rows, step_pair};
 ghost use Rattle.reg_store.specs.Fit.{IsNamed};
 
 use crate::read::gather::Gather;
@@ -128,34 +128,6 @@ fn step_in(row: &Row) -> Result<(u32, u32), KeepError>
         return Err(KeepError::Store);
     }
     Ok((number_column(row, 0)?, number_column(row, 1)?))
-}
-
-/// The rows that a row has a step to.
-#[derive(Drop)]
-pub(crate) struct KeptTargets {
-    pub targets: Vec<u32>,
-}
-
-impl Gather for KeptTargets {
-    ghost holds = { λ _ it rows. rows ≡ map number_row it.targets.items };
-
-    fn take(&mut self, row: &Row) -> Result<(), KeepError> {
-        let target = target_in(row)?;
-        if self.targets.push(target).is_err() {
-            return Err(KeepError::NoMemory);
-        }
-        Ok(())
-    }
-}
-
-fn target_in(row: &Row) -> Result<u32, KeepError>
-    ensures read { IfOk result (λ target. row.now ≡ number_row target) }
-    ensures refused { IfErr result (λ e. e ≢ KeepError.Full) }
-{
-    if row.column_count() != 1 {
-        return Err(KeepError::Store);
-    }
-    number_column(row, 0)
 }
 
 fn number_column(row: &Row, at: usize) -> Result<u32, KeepError>

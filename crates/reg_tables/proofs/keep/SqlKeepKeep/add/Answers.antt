@@ -1,4 +1,4 @@
-use Rattle.std.proofs.Common.{arith, ℕ, List, ◌≡◌, ◌<◌, false, length, refl, sym, ap, subst, ◌+◌, ◌++◌, ◌∷◌, [], ◌∙◌}
+use Rattle.std.proofs.Common.{rules, arith, ℕ, List, ◌≡◌, ◌<◌, false, length, refl, sym, ap, subst, ◌+◌, ◌++◌, ◌∷◌, [], ◌∙◌}
 use Rattle.std.proofs.lemmas.List.{length_push}
 use Rattle.sqlite.specs.Effect.{Database}
 use Rattle.sqlite.specs.State.{HasCleanDisk, Survives}
@@ -10,10 +10,8 @@ use Rattle.reg_store.specs.Fit.{IsFileOf, kept_rows}
 use Rattle.reg_tables.proofs.QuietLaws.{clean_before}
 use Rattle.reg_tables.specs.Rows.{deposit_from}
 use Rattle.reg_tables.specs.Inserts.{AddsFile}
-use Rattle.ags_check.specs.Findings.{CheckedFile}
-use Rattle.reg_tables.specs.declared.memory.room.Size.{Size}
-use Rattle.reg_tables.specs.Heads.{IsSizeOf}
-use Rattle.reg_tables.proofs.MethodsLaws.{same_file}
+use Rattle.reg_tables.specs.Heads.{IsKnownOf, KnowsFile}
+use Rattle.reg_tables.proofs.ExamineLemmas.{known_of}
 use Rattle.reg_tables.specs.Memory.{Agrees, IsComing}
 use Rattle.reg_tables.specs.Register.{KeepsRegister, deposits_in, text_in}
 use Rattle.reg_tables.proofs.RegisterLaws.{IsReady}
@@ -27,7 +25,7 @@ use Rattle.reg_tables.proofs.keep.SqlKeepKeep.add.Goals as goal
 pub add_checked-added-requires : goal.add_checked-added-requires
 add_checked-added-requires g c =
     let keep = c.args.self.now in
-    record { idle = idle_at (state g.S.Store keep.connection) keep.idle (keep.kept c.requires.working); schema = λ clean. schema_at (keep.kept c.requires.working clean); is_open = λ clean. opened_at (keep.kept c.requires.working clean) }
+    record { rows = search rules; few = search rules; idle = idle_at (state g.S.Store keep.connection) keep.idle (keep.kept c.requires.working); schema = λ clean. schema_at (keep.kept c.requires.working clean); is_open = λ clean. opened_at (keep.kept c.requires.working clean) }
 
 -- ---- where no memory is left, or the store refused
 
@@ -120,17 +118,16 @@ invariant_of-self-in-Ok-added-clause-agrees g c works clean =
     let first = clean_before old (state g.S.Store c.add_checked-added.new.conn) c.add_checked-added.ensures.crash clean in
     let its : IsComing c.make_room-room.new.self (added g c) c.in-Ok.coming = subst (λ (bytes : List ℕ). IsComing c.make_room-room.new.self (deposit_from c.args.firm.now c.args.project.now c.args.embargo bytes) c.in-Ok.coming) c.bytes.ensures.bytes c.in-Ok.ensures.coming in
     let fit : IsFileOf keep.dictionary (added g c) c.args.checked.now = record { given = c.requires.dictionary; bytes = refl; clean = c.bytes.ensures.clean; short = c.requires.short } in
-    let sized : IsSizeOf keep.dictionary (added g c) c.in-Ok.coming.known.size = λ file its_own.
-    (ap (λ (s : Size). s.rows) c.in-Ok.ensures.size ∙ c.of-size.ensures ∙ ap (λ (f : CheckedFile). f.graph.rows) (same_file keep.dictionary (added g c) c.args.checked.now file fit its_own)) in
+    let read : KnowsFile keep.dictionary (added g c) c.in-Ok.coming.known.file = known_of keep.dictionary (added g c) c.args.checked.now c.in-Ok.coming.known.file fit (subst (IsKnownOf c.args.checked.now) (sym c.in-Ok.ensures.file) c.in_ok-file.ensures) in
     subst (λ (all : List Deposit). Agrees c.push.new.self keep.dictionary all) (sym (more g c clean).list)
-    (c.push.ensures.agrees keep.dictionary (held g c) (added g c) its sized (c.make_room-room.ensures.agrees keep.dictionary (held g c) (keep.agrees c.requires.working first)))
+    (c.push.ensures.agrees keep.dictionary (held g c) (added g c) its read (c.make_room-room.ensures.agrees keep.dictionary (held g c) (keep.agrees c.requires.working first)))
 
 pub returns-in-Ok-added : goal.returns-in-Ok-added
 returns-in-Ok-added g c =
     let keep = c.args.self.now in
     let old = state g.S.Store keep.connection in
     let new = state g.S.Store c.add_checked-added.new.conn in
-    let base = c.before in
+    let base = c.before.before in
     let low : length keep.memory.known.items < 999999 = omega (arith, c.count-count.ensures) in
     let before = λ (clean : HasCleanDisk new). clean_before old new c.add_checked-added.ensures.crash clean in
     record {
@@ -150,8 +147,8 @@ returns-in-Ok-added g c =
       };
     }
 
-pub returns-in-Err-clause-leaves : goal.returns-in-Err-clause-leaves
-returns-in-Err-clause-leaves g c =
+pub returns-clause-leaves : goal.returns-clause-leaves
+returns-clause-leaves g c =
     let keep = c.args.self.now in
     let old = state g.S.Store keep.connection in
     let new = state g.S.Store c.add_checked-added.new.conn in

@@ -1,4 +1,3 @@
-use Rattle.std.proofs.Common.{refl}
 use Rattle.reg_tables.proofs.MemoryLemmas.{agrees_push}
 use Rattle.reg_tables.proofs.memory.Memory.push.Goals as goal
 

@@ -1,4 +1,4 @@
-use Rattle.std.proofs.Common.{rules, ◌≡◌, sym, subst}
+use Rattle.std.proofs.Common.{rules, ◌≡◌, true, false, sym, subst}
 use Rattle.sqlite.specs.Tree.{IsAscending}
 use Rattle.sqlite.specs.Held.{state}
 use Rattle.ags_links.specs.Steps.{IsBefore}
@@ -14,15 +14,30 @@ examine_file-requires-clause-rising g c =
     let same : c.steps.result.now ≡ file.graph.steps = search rules in
     subst (IsAscending IsBefore) (sym same) (graph_ascends file c.requires.clean.graph)
 
-pub returns-in-Ok-clause-tested : goal.returns-in-Ok-clause-tested
-returns-in-Ok-clause-tested g c clean =
+pub returns-in-Ok-true-clause-tested : goal.returns-in-Ok-true-clause-tested
+returns-in-Ok-true-clause-tested g c clean =
     let file = c.args.file.now in
-    let lines : c.as_slice.result.now ≡ kept_rows file.groups = search rules in
+    let is : c.in-Ok-true.field-0 ≡ true = search rules in
+    let lines : c.deref-2.result.now ≡ kept_rows file.groups = search rules in
     let steps : c.steps.result.now ≡ file.graph.steps = search rules in
-    file_tests c.examine_file.result (state g.S.Store c.args.conn.now).now c.args.number c.as_slice.result.now (kept_rows file.groups) c.steps.result.now file.graph.steps lines steps (c.examine_file.ensures.tested clean)
+    file_tests (state g.S.Store c.args.conn.now).now c.args.number c.deref-2.result.now (kept_rows file.groups) c.steps.result.now file.graph.steps is lines steps (c.in-Ok-true.ensures.tested clean)
 
-pub returns-in-Ok-clause-quiet : goal.returns-in-Ok-clause-quiet
-returns-in-Ok-clause-quiet g c = c.examine_file.ensures.quiet
+pub returns-in-Ok-true-clause-quiet : goal.returns-in-Ok-true-clause-quiet
+returns-in-Ok-true-clause-quiet g c = c.in-Ok-true.ensures.quiet
 
-pub returns-in-Err-clause-quiet : goal.returns-in-Err-clause-quiet
-returns-in-Err-clause-quiet g c = quiet_none (state g.S.Store c.args.conn.now) _ c.requires.idle.idle
+pub returns-in-Ok-false-clause-tested : goal.returns-in-Ok-false-clause-tested
+returns-in-Ok-false-clause-tested g c clean =
+    let file = c.args.file.now in
+    let is : c.in-Ok-false.field-0 ≡ false = search rules in
+    let lines : c.deref-2.result.now ≡ kept_rows file.groups = search rules in
+    let steps : c.steps.result.now ≡ file.graph.steps = search rules in
+    file_tests (state g.S.Store c.args.conn.now).now c.args.number c.deref-2.result.now (kept_rows file.groups) c.steps.result.now file.graph.steps is lines steps (c.in-Ok-false.ensures.tested clean)
+
+pub returns-in-Ok-false-clause-quiet : goal.returns-in-Ok-false-clause-quiet
+returns-in-Ok-false-clause-quiet g c = c.in-Ok-false.ensures.quiet
+
+pub returns-in_default-clause-quiet : goal.returns-in_default-clause-quiet
+returns-in_default-clause-quiet g c = quiet_none (state g.S.Store c.args.conn.now) _ c.requires.idle.idle
+
+pub returns-in_default-of-clause-quiet : goal.returns-in_default-of-clause-quiet
+returns-in_default-of-clause-quiet g c = quiet_none (state g.S.Store c.args.conn.now) _ c.requires.idle.idle

@@ -3,9 +3,9 @@ use Rattle.std.specs.Prelude.{Option, IfSome}
 use Rattle.sqlite.specs.Effect.{Database}
 use Rattle.sqlite.specs.Held.{state}
 use Rattle.reg_store.specs.Keep.{sent_of}
-use Rattle.reg_tables.specs.declared.memory.room.Size.{Size}
+use Rattle.reg_tables.specs.declared.memory.file.KnownFile.{KnownFile}
 use Rattle.reg_tables.specs.Digests.{IsNew}
-use Rattle.reg_tables.specs.Heads.{IsSizeOf}
+use Rattle.reg_tables.specs.Heads.{KnowsFile}
 use Rattle.reg_tables.proofs.QuietLaws.{clean_before, idle_then, quiet_then}
 use Rattle.reg_tables.proofs.ExamineLemmas.{tests_empty, tests_false, tests_first, tests_some, tests_then, tests_true}
 use Rattle.reg_tables.proofs.open.deposits.examine_kept.Goals as goal
@@ -30,8 +30,8 @@ returns-in-Ok-true-clause-tested g c clean =
     let first = tests_some c.in-Ok-Some.field-0-is (c.in-Ok-Some.ensures.tested early) in
     tests_then true _ (λ (db : Database). IsNew db c.args.numbers.now (sent_of c.args.kept.now)) (state g.S.Store c.args.conn.now).now mid.now (c.in-Ok-Some.ensures.quiet.same early refl).0 first (tests_true is (c.in-Ok-true.ensures.tested clean))
 
-pub returns-in-Ok-true-clause-size : goal.returns-in-Ok-true-clause-size
-returns-in-Ok-true-clause-size g c = subst (λ (found : Option Size). IfSome found (IsSizeOf c.args.dictionary.now (sent_of c.args.kept.now))) c.in-Ok-Some.field-0-is c.in-Ok-Some.ensures.size
+pub returns-in-Ok-true-clause-known : goal.returns-in-Ok-true-clause-known
+returns-in-Ok-true-clause-known g c = subst (λ (found : Option KnownFile). IfSome found (KnowsFile c.args.dictionary.now (sent_of c.args.kept.now))) c.in-Ok-Some.field-0-is c.in-Ok-Some.ensures.known
 
 pub returns-in-Ok-true-clause-quiet : goal.returns-in-Ok-true-clause-quiet
 returns-in-Ok-true-clause-quiet g c = quiet_then _ _ _ _ c.in-Ok-Some.ensures.quiet c.in-Ok-true.ensures.quiet
