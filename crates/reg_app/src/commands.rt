@@ -11,13 +11,12 @@ use crate::verify::verify;
 use crate::version::print_version;
 use ags_cli::{Watched, run_without_words, tell};
 use reg_cli::{
-    Action, Asker, Failure, Rights, Words, ask_desk, ask_of, check_given, dictionary_in, read_path,
+    Action, Asker, Failure, Rights, Words, ask_of, check_given, dictionary_in, read_path,
     read_rights, read_token, read_words, session_of,
 };
-use reg_desk::{Desk, Request};
-use reg_policy::{Day, Policy};
-use reg_store::{Keep, NextStart};
-use std::alloc::Global;
+use reg_desk::Desk;
+use reg_policy::Day;
+use reg_store::NextStart;
 use std::convert::AsStr;
 use std::io::{Read, Write};
 
@@ -156,32 +155,11 @@ fn ask_register<'w, G: Registers, W: Write, E: Write>(
         None => Vec::new(alloc),
     };
     let groups = ask.groups(alloc)?;
-    let request = ask.request(
-        session.caller,
-        &session.project,
-        session.day,
-        &bytes,
-        &groups,
-    );
     let kept = open_shown(rt, machine, asker.store, asker.shows_progress, err)?;
-    let (done, kept) = ask_keep(alloc, kept, policy, &request, out);
-    G::close(kept);
+    let mut desk = Desk::new(kept, policy);
+    let done = session.ask(alloc, &mut desk, &ask, &groups, &bytes, out);
+    G::close(desk.into_keep());
     done
-}
-
-/// Puts a request to a store, which is returned, and prints the answer.
-fn ask_keep<'w, K: Keep, W: Write>(
-    alloc: Global,
-    keep: K,
-    policy: Policy,
-    request: &Request<'_>,
-    out: &mut Watched<W>,
-) -> (Result<u8, Failure<'w>>, K)
-    requires { K.has_failed keep ≡ false }
-{
-    let mut desk = Desk::new(keep, policy);
-    let done = ask_desk(alloc, &mut desk, request, out);
-    (done, desk.into_keep())
 }
 
 /// Opens the register at a path, and says on standard error how far that is, where that is to be shown.

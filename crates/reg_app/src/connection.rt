@@ -1,5 +1,8 @@
 //! A connection that is served within its time.
 
+ghost use Rattle.std.specs.Prelude.{◌≡◌};
+ghost use Rattle.reg_app.specs.Serving.{AsksOnce};
+
 use crate::listener::Stream;
 use crate::moment::Moment;
 use crate::record::Record;
@@ -24,7 +27,10 @@ pub(crate) fn serve_accepted<K: Keep, C: Clock, L: Write + Drop>(
     moment: Option<Moment>,
     serving: &Serving,
     running: &mut Running<K, L>,
-) -> Outcome {
+) -> Outcome
+    ensures asked { AsksOnce running.old.callers running.old.desk running.new.desk }
+    ensures callers { running.new.callers ≡ running.old.callers }
+{
     let meter = Meter::default();
     let mut record = Record::new(clock, &meter, moment, running.log.as_mut());
     let day = serving.day.or(record.day());
@@ -76,7 +82,9 @@ fn serve_stream<K: Keep, C: Clock, L: Write + Drop>(
     desk: &mut Desk<K>,
     record: &mut Record<'_, '_, '_, C, L>,
     meter: &Meter,
-) -> io::Result<Option<u16>> {
+) -> io::Result<Option<u16>>
+    ensures { AsksOnce callers.now desk.old desk.new }
+{
     let end = end_of(clock, patience)?;
     let sent = Sent { clock, stream, end };
     let mut received = Received { sent, meter };

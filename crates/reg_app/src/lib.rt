@@ -7,6 +7,7 @@
 
 mod commands;
 mod connection;
+pub mod laws;
 mod listener;
 mod log;
 mod log_file;

@@ -10,8 +10,14 @@ use std::os::unix::fs::MetadataExt;
 
 /// Looks whether rights and log are to be read anew.
 pub trait Reload<'w, L> {
+    ghost use Rattle.reg_app.specs.declared.reload.Look.{Look};
+
+    /// What a look may find, and what it leaves: anything, unless a type says more.
+    ghost looks: { Self → Look L → Self → Type 0 } = { λ _ _ _. Unit {0} };
+
     /// Looks once, before a connection is served.
-    fn look(&mut self, alloc: Global) -> Look<'w, L>;
+    fn look(&mut self, alloc: Global) -> Look<'w, L>
+        ensures { looks self.old result self.new };
 }
 
 /// What a look finds.

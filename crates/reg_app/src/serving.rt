@@ -1,6 +1,7 @@
 //! A register that is served over connections.
 
 ghost use Rattle.std.specs.Prelude.{◌≡◌, false};
+ghost use Rattle.reg_app.specs.Serving.{AsksOnce, GoesOn, IsReloaded, Looks, ServesOn};
 
 use crate::commands::{Machine, open_shown, tell_if_nearly_full};
 use crate::connection::{drain_peer, serve_accepted};
@@ -25,7 +26,8 @@ use std::{fs, io};
 
 /// Serves connections, one after the other: writes the line of the log before each reply, and then prints the status of
 /// the reply, or `fault`. `Stream` where such a line is not written, and `StoreFailed` where that ends it. Before each
-/// connection it looks whether rights and log are to be read anew. The store is returned. No clause says so.
+/// connection it looks whether rights and log are to be read anew. Once the next start needs more than three quarters of
+/// the memory that is allowed, it says so. The store is returned. No clause says what is read, written and printed.
 pub fn serve_on<
     'w,
     K: Keep + NextStart,
@@ -43,24 +45,20 @@ pub fn serve_on<
     reload: &mut R,
     out: &mut Watched<W>,
     err: &mut Watched<E>,
-) -> (Result<(), Fault>, K) {
+) -> (Result<(), Fault>, K)
+    ensures { ServesOn R.looks reload.old reload.new running.desk running.callers result.1 }
+{
     let mut running = running;
     let mut served = Ok(());
     let mut is_nearly_full = running.desk.keep().is_nearly_full();
-    for _ in 0..serving.connections {
-        let accepted = listener.accept();
-        let moment = Moment::now(clock);
-        let (next, noted) = renewed(alloc, &moment, running, reload, err);
-        running = next;
-        served = noted;
-        if served.is_ok() {
-            let trusted = trusted(serving, &moment, &running, err);
-            served = serve_next(alloc, clock, &accepted, trusted, serving, &mut running, out);
-        }
-        is_nearly_full = is_nearly_full || tell_if_nearly_full(running.desk.keep(), err);
+    'connections: for _ in 0..serving.connections {
         if served.is_err() {
             break;
         }
+        let (next, done) = serve_one(alloc, clock, listener, serving, running, reload, out, err);
+        running = next;
+        served = done;
+        is_nearly_full = is_nearly_full || tell_if_nearly_full(running.desk.keep(), err);
     }
     let Running {
         desk,
@@ -91,6 +89,31 @@ pub struct Running<K: Keep, L> {
     pub log: Option<Log<L>>,
 }
 
+/// Accepts a connection, looks, and serves it, unless the look has a line of the log that is not written: what serves
+/// from then on.
+fn serve_one<'w, K: Keep, C: Clock, L: Write + Drop, R: Reload<'w, L>, W: Write, E: Write>(
+    alloc: Global,
+    clock: &C,
+    listener: &Listener,
+    serving: &Serving,
+    running: Running<K, L>,
+    reload: &mut R,
+    out: &mut Watched<W>,
+    err: &mut Watched<E>,
+) -> (Running<K, L>, Result<(), Fault>)
+    ensures { GoesOn R.looks reload.old reload.new running.desk result.0.desk running.callers result.0.callers }
+{
+    let accepted = listener.accept();
+    let moment = Moment::now(clock);
+    let (mut running, noted) = renewed(alloc, &moment, running, reload, err);
+    if noted.is_err() {
+        return (running, noted);
+    }
+    let trusted = trusted(serving, &moment, &running, err);
+    let served = serve_next(alloc, clock, &accepted, trusted, serving, &mut running, out);
+    (running, served)
+}
+
 /// What serves from now on, and whether its line of the log was written. Where what was read anew is refused, it is what
 /// served before.
 fn renewed<'w, K: Keep, L: Write + Drop, R: Reload<'w, L>, E: Write>(
@@ -100,7 +123,7 @@ fn renewed<'w, K: Keep, L: Write + Drop, R: Reload<'w, L>, E: Write>(
     reload: &mut R,
     err: &mut Watched<E>,
 ) -> (Running<K, L>, Result<(), Fault>)
-    ensures { result.0.desk.keep ≡ running.desk.keep }
+    ensures { Looks R.looks reload.old reload.new running.desk result.0.desk running.callers result.0.callers }
 {
     match reload.look(alloc) {
         Look::Same => (running, Ok(())),
@@ -113,15 +136,15 @@ fn renewed<'w, K: Keep, L: Write + Drop, R: Reload<'w, L>, E: Write>(
     }
 }
 
-/// Serves under other rights, with another log, from the same store: its deposits are as before, and what is answered
-/// from now on is a run under the policy of these rights.
+/// Serves under other rights, with another log, from the same store.
 fn renew<K: Keep, L: Write + Drop>(
     moment: Option<Moment>,
     running: Running<K, L>,
     rights: Rights,
     log: Option<Log<L>>,
 ) -> (Running<K, L>, Result<(), Fault>)
-    ensures { result.0.desk.keep ≡ running.desk.keep }
+    ensures desk { IsReloaded running.desk rights.policy result.0.desk }
+    ensures callers { result.0.callers ≡ rights.callers }
 {
     let Rights {
         policy,
@@ -141,9 +164,7 @@ fn renew<K: Keep, L: Write + Drop>(
 
 /// A desk over the same store under another policy. One that has failed answers nothing else under any policy.
 fn under_policy<K: Keep>(desk: Desk<K>, policy: Policy) -> Desk<K>
-    ensures keep { result.keep ≡ desk.keep }
-    ensures failed { result.failed ≡ desk.failed }
-    ensures policy { desk.failed ≡ false → result.policy ≡ policy }
+    ensures { IsReloaded desk policy result }
 {
     if desk.has_failed() {
         return desk;
@@ -217,7 +238,10 @@ fn serve_next<K: Keep, C: Clock, L: Write + Drop, W: Write>(
     serving: &Serving,
     running: &mut Running<K, L>,
     out: &mut Watched<W>,
-) -> Result<(), Fault> {
+) -> Result<(), Fault>
+    ensures asked { AsksOnce running.old.callers running.old.desk running.new.desk }
+    ensures callers { running.new.callers ≡ running.old.callers }
+{
     let outcome = serve_accepted(alloc, clock, accepted, moment, serving, running);
     if let (Ok(stream), Some(_)) = (accepted, outcome.status) {
         let _ended = drain_peer(clock, stream);

@@ -5,9 +5,10 @@ use super::answers::DELTA;
 use ags_cli::Watched;
 use ags_dict::Dictionary;
 use ags_rows::built_in::MINI;
-use reg_cli::{Asker, ask_desk, session_of};
-use reg_desk::{Desk, Request};
+use reg_cli::{Asker, session_of};
+use reg_desk::Desk;
 use reg_policy::{Callers, Policy};
+use reg_request::Ask;
 use reg_store::{Keep, PlainKeep};
 use std::alloc::Global;
 use std::io::Write;
@@ -23,14 +24,9 @@ pub fn print_list<K: Keep, W: Write>(
     out: &mut Watched<W>,
 ) -> u8 {
     match session_of(alloc, callers, token, asker, None) {
-        Ok(session) => {
-            let request = Request::List {
-                caller: session.caller,
-                project: &session.project,
-                day: session.day,
-            };
-            ask_desk(alloc, desk, &request, out).unwrap_or(5)
-        }
+        Ok(session) => session
+            .ask(alloc, desk, &Ask::List, &[], b"", out)
+            .unwrap_or(5),
         Err(fault) => fault.status(),
     }
 }
