@@ -16,8 +16,8 @@ use ags_check::findings;
 use ags_dict::laws::{mini_is_dictionary, one_dictionary};
 use ags_dict::{DictError, Dictionary};
 use ags_rows::LIMIT;
-use ags_rows::laws::one_list_of_findings;
 use ags_rows::built_in::MINI;
+use ags_rows::laws::one_list_of_findings;
 use std::alloc::{AllocError, Global};
 use std::io::{Read, Write};
 

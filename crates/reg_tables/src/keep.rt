@@ -23,7 +23,9 @@ use ags_check::Checked;
 use ags_dict::Dictionary;
 use ags_links::Graph;
 use reg_policy::{Day, Name};
-use reg_store::{HeadedRow, Keep, KeepError, Kept, KeptHead, KeptRow, MOST, NextStart, project_rows_in};
+use reg_store::{
+    HeadedRow, Keep, KeepError, Kept, KeptHead, KeptRow, MOST, NextStart, project_rows_in,
+};
 use sqlite::{Alter, Connection};
 use std::alloc::Global;
 

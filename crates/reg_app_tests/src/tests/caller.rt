@@ -1,6 +1,5 @@
 //! The caller in README.md of reg_cli.
 
-use samples_of_tests::{CALLERS, POLICY};
 use super::answers::DELTA;
 use ags_cli::Watched;
 use ags_dict::Dictionary;
@@ -10,6 +9,7 @@ use reg_desk::Desk;
 use reg_policy::{Callers, Policy};
 use reg_request::Ask;
 use reg_store::{Keep, PlainKeep};
+use samples_of_tests::{CALLERS, POLICY};
 use std::alloc::Global;
 use std::io::Write;
 use std::test::Fail;

@@ -1,6 +1,5 @@
 //! Connections that are served, over loopback.
 
-use samples_of_tests::{CALLERS, FILE_A, POLICY};
 use super::{Failing, failing_after};
 use ags_cli::Watched;
 use ags_dict::Dictionary;
@@ -9,6 +8,7 @@ use reg_app::{Listener, Log, Look, Reload, Running, Serving, serve_on};
 use reg_desk::Desk;
 use reg_policy::{Callers, Policy};
 use reg_store::{Keep, NextStart, PlainKeep};
+use samples_of_tests::{CALLERS, FILE_A, POLICY};
 use std::alloc::Global;
 use std::cell::Cell;
 use std::io;

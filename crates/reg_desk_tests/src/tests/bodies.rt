@@ -1,8 +1,8 @@
 //! The bodies that are sent: the files of the worked examples, each with its changes.
 
-use samples_of_tests::{FILE_A, FILE_B, FILE_C};
 use super::{Body, Edit, File, Length};
 use ags_rows::LIMIT;
+use samples_of_tests::{FILE_A, FILE_B, FILE_C};
 use std::alloc::{AllocError, Global};
 
 /// The first file.

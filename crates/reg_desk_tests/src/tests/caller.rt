@@ -3,13 +3,13 @@
 ghost use Rattle.reg_desk.specs.Asked.{deposit};
 ghost use Rattle.reg_desk.specs.Desks.{AnsweredBy};
 
-use samples_of_tests::{CALLERS, FILE_A, POLICY};
 use super::examples::{MOST, UNTIL};
 use super::memory_of;
 use super::wanted::is_receipt;
 use reg_desk::{Answer, Desk, Request};
 use reg_policy::{Caller, Callers, Day, Name, Policy};
 use reg_store::Keep;
+use samples_of_tests::{CALLERS, FILE_A, POLICY};
 use std::alloc::Global;
 use std::test::Fail;
 

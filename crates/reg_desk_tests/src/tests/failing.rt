@@ -2,7 +2,6 @@
 
 ghost use Rattle.std.specs.Prelude.{◌≡◌, false};
 
-use samples_of_tests::{CALLERS, FILE_A, FILE_B};
 use super::bodies::B_SHOWN;
 use super::examples::{FIRST, LISTED, MOST};
 use super::policies::{WITHDRAWALS, policy_with};
@@ -13,6 +12,7 @@ use super::{Over, Want, examples_over, memory_of};
 use reg_desk::{Answer, Desk, Request};
 use reg_policy::{Caller, Callers, Day, Name};
 use reg_store::Keep;
+use samples_of_tests::{CALLERS, FILE_A, FILE_B};
 use std::alloc::Global;
 use std::io;
 

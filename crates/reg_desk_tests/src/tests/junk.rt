@@ -4,7 +4,6 @@ ghost use Rattle.std.specs.Prelude.{◌≡◌, ◌<◌, ◌≤◌, [], All, fals
 ghost use Rattle.reg_store.specs.Plain.{deposits_of};
 ghost use Rattle.reg_store.specs.Reading.{HasKind};
 
-use samples_of_tests::{CALLERS, FILE_A, POLICY};
 use super::examples::MOST;
 use super::memory_of;
 use super::requests::{deposit_of, extract_of, two_of};
@@ -15,6 +14,7 @@ use ags_text::{Bytes, Sequence};
 use reg_desk::{Answer, Desk, Request};
 use reg_policy::{Caller, Callers, Day, Name, Policy};
 use reg_store::{HeadedRow, Keep, KeepError, Kept, KeptHead, KeptRow, PlainKeep};
+use samples_of_tests::{CALLERS, FILE_A, POLICY};
 use std::alloc::Global;
 use std::mem::swap;
 

@@ -3,7 +3,6 @@
 
 pub mod again;
 
-use samples_of_tests::FILE_A;
 use super::examples::{MOST, UNTIL};
 use super::requests::{deposit_of, extract_of, list_of, two_of, withdraw_of};
 use super::wanted::{is_listing, is_receipt, is_withdrawn, name_of};
@@ -11,6 +10,7 @@ use super::{Line, Over, Play, plays};
 use reg_desk::{Answer, Desk, Request};
 use reg_policy::{Caller, Callers, Day, Name};
 use reg_store::Keep;
+use samples_of_tests::FILE_A;
 use std::alloc::{AllocError, Global};
 use std::env::Env;
 

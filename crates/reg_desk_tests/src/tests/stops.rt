@@ -7,7 +7,6 @@ ghost use Rattle.std.specs.Prelude.{◌≡◌, false, IsTrue};
 pub(super) mod migration;
 mod noted;
 
-use samples_of_tests::CALLERS;
 use super::bodies::{A, B};
 use super::examples::{FIRST, SECOND, UNTIL};
 use super::policies::{WITHDRAWALS, policy_with};
@@ -19,6 +18,7 @@ use reg_desk::Desk;
 use reg_policy::{Callers, Name, Policy};
 use reg_store::Keep;
 use reg_tables::{AdoptError, CreateError, SqlKeep};
+use samples_of_tests::CALLERS;
 use sqlite::{Alter, Connection, FileStore, Files, Options};
 use sqlite_disk::{Crash, Disk, Fuse, Memory};
 use std::alloc::{AllocError, Global};

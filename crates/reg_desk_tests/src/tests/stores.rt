@@ -2,13 +2,13 @@
 
 ghost use Rattle.std.specs.Prelude.{◌≡◌, ◌<◌, ◌≤◌, false, length, IsTrue, OnOk};
 
-use samples_of_tests::FILE_B;
 use super::examples::{MOST, UNTIL};
 use super::{Over, Play, plays};
 use ags_check::{Checked, check};
 use ags_rows::LIMIT;
 use reg_policy::{Callers, Day, Name};
 use reg_store::{Keep, KeepError, KeptRow, is_equal};
+use samples_of_tests::FILE_B;
 use std::alloc::{AllocError, Global};
 
 /// The number of a file that is checked; none where an equal deposit is held.

@@ -1,7 +1,6 @@
 //! The tables of requests and of heads, each reply compared whole.
 ghost use Rattle.std.specs.Prelude.{◌<◌, ◌≤◌};
 
-use samples_of_tests::{FILE_A, POLICY};
 use super::cases::{
     AT_A_DESK, AT_A_FULL_DESK, AT_A_WIDE_DESK, AT_A_WITHDRAWING_DESK, Altered, BODIES, HEADS,
     LONG_HEADS, RULE_AFTER, WIDE_HEADING, WITHDRAWALS,
@@ -11,6 +10,7 @@ use ags_rows::built_in::MINI;
 use reg_desk::Desk;
 use reg_policy::{Callers, Day};
 use reg_store::PlainKeep;
+use samples_of_tests::{FILE_A, POLICY};
 use std::alloc::{AllocError, Global};
 use std::process::Abort;
 
