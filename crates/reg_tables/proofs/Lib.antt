@@ -29,6 +29,7 @@ pub mod OpenLemmas
 pub mod ReadersLemmas
 pub mod ReadsLemmas
 pub mod ReadingLemmas
+pub mod LinesLemmas
 pub mod ProjectLemmas
 pub mod RowsLemmas
 pub mod HeadsLemmas

@@ -91,7 +91,7 @@ impl<S: Alter> Keep for SqlKeep<S> {
         if count >= MOST {
             return Err(KeepError::Full);
         }
-        let rows = few_rows(self.alloc, checked.scan().groups())?;
+        let rows = few_rows(self.alloc, checked)?;
         let file = KnownFile::of(self.alloc, checked, &rows)?;
         let room = self
             .memory

@@ -276,6 +276,7 @@ fn examine_checked<S: Alter>(
 ) -> Result<Option<KnownFile>, KeepError>
     requires idle { IsIdle (state S.Store conn.old) }
     requires clean { IsClean file.now }
+    requires short { length file.now.bytes ≤ LIMIT }
     ensures tested { FindsOneIf result (λ db. HoldsLines db number (kept_rows file.now.groups)
         × HoldsSteps db number file.now.graph.steps)
         (state S.Store conn.old) (state S.Store conn.new) }
@@ -283,7 +284,7 @@ fn examine_checked<S: Alter>(
     ensures refused { IfErr result (λ e. e ≢ KeepError.Full) }
     ensures quiet { IsStill (state S.Store conn.old) (state S.Store conn.new) (fails result) }
 {
-    let Ok(lines) = few_rows(alloc, file.scan().groups()) else {
+    let Ok(lines) = few_rows(alloc, file) else {
         return Err(KeepError::NoMemory);
     };
     let Ok(known) = KnownFile::of(alloc, file, &lines) else {

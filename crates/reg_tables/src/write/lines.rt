@@ -12,7 +12,8 @@ ghost use Rattle.reg_tables.specs.Inserts.{AddsLines};
 ghost use Rattle.reg_tables.specs.Inside.{ChangesInside, CommitsNothing, HasSchema, HasTransaction, state_in};
 
 use crate::write::statement::run;
-use ags_rows::Group;
+use ags_check::Checked;
+use ags_rows::LIMIT;
 use reg_store::{KeptRow, kept_rows};
 use sqlite::types::ValueRef;
 use sqlite::{Alter, Error, ErrorCode, Transaction, params};
@@ -157,14 +158,12 @@ fn group_of(row: &KeptRow) -> Result<&str, Error>
     }
 }
 
-/// The rows of a file, as many as a table of lines can number.
-pub(crate) fn few_rows(alloc: Global, groups: &[Group]) -> Result<Vec<KeptRow>, AllocError>
-    ensures rows { IfOk result (λ rows. rows.items ≡ rows_in groups.now) }
+/// The rows of a file, which are as few as a table of lines can number: no more than its bytes.
+pub(crate) fn few_rows(alloc: Global, file: &Checked<'_>) -> Result<Vec<KeptRow>, AllocError>
+    requires { length file.now.bytes ≤ LIMIT }
+    ensures rows { IfOk result (λ rows. rows.items ≡ rows_in file.now.groups) }
     ensures few { IfOk result (λ rows. length rows.items < 4294967296) }
 {
-    let rows = kept_rows(alloc, groups)?;
-    if rows.len() >= 4_294_967_296 {
-        return Err(AllocError);
-    }
-    Ok(rows)
+    let _bytes = file.bytes();
+    kept_rows(alloc, file.scan().groups())
 }
