@@ -1,5 +1,5 @@
 -- The row of PROJ among the rows that are kept of a file, and the rows that it reaches.
-use Rattle.std.specs.Prelude.{◌≡◌, ◌↔◌, ℕ, ◌+◌, ◌==◌, List, [], ◌∷◌, Contains, map, filter, slice_get}
+use Rattle.std.specs.Prelude.{◌≡◌, ◌↔◌, ℕ, ◌+◌, ◌==◌, List, [], ◌∷◌, Contains, slice_get}
 use Rattle.std.specs.Prelude.{Option, Some, None, if◌then◌else◌, codes}
 use Rattle.std.specs.Str.{bytes_eq}
 use Rattle.ags_rows.specs.Spelling.{line_of}
@@ -45,7 +45,3 @@ IsProjectRow rows steps row = (m : ℕ) × IsReached (HasStep steps) (IsProjectN
 -- These are all of them.
 abbrev pub AreProjectRows : List KeptRow → List (ℕ × ℕ) → List HeadedRow → Type 0
 AreProjectRows rows steps found = (row : HeadedRow) → Contains found row ↔ IsProjectRow rows steps row
-
--- The rows that the row has a step to, in the order of the steps.
-abbrev pub targets_of : ℕ → List (ℕ × ℕ) → List ℕ
-targets_of row steps = map (λ step. step.1) (filter (λ step. step.0 == row) steps)

@@ -32,9 +32,7 @@ pub fn project_rows_in(
 
 /// The row of PROJ among the rows of a file: its first DATA row under the GROUP row of PROJ, which is the only one where
 /// the file has no finding (Rule 13). It comes with its number among the DATA rows, from 0.
-///
-/// It is refused only when out of memory.
-pub fn project_in(alloc: Global, rows: &[KeptRow]) -> Result<Option<(usize, HeadedRow)>, AllocError>
+fn project_in(alloc: Global, rows: &[KeptRow]) -> Result<Option<(usize, HeadedRow)>, AllocError>
     ensures { IfOk result (λ found. found ≡ project_of rows.now) }
 {
     let mut number: usize = 0;
