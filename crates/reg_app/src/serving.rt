@@ -55,7 +55,9 @@ pub fn serve_on<
         if served.is_err() {
             break;
         }
-        let (next, done) = serve_one(alloc, clock, listener, serving, running, reload, out, err);
+        let (next, done) = serve_connection(
+            alloc, clock, listener, serving, running, reload, out, err,
+        );
         running = next;
         served = done;
         is_nearly_full = is_nearly_full || tell_if_nearly_full(running.desk.keep(), err);
@@ -91,7 +93,7 @@ pub struct Running<K: Keep, L> {
 
 /// Accepts a connection, looks, and serves it, unless the look has a line of the log that is not written: what serves
 /// from then on.
-fn serve_one<'w, K: Keep, C: Clock, L: Write + Drop, R: Reload<'w, L>, W: Write, E: Write>(
+fn serve_connection<'w, K: Keep, C: Clock, L: Write + Drop, R: Reload<'w, L>, W: Write, E: Write>(
     alloc: Global,
     clock: &C,
     listener: &Listener,

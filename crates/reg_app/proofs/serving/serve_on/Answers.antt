@@ -7,4 +7,4 @@ connections-init g c = (begins c.args.running.desk, starts)
 pub connections-preserved : goal.connections-preserved
 connections-preserved g c =
     let before = c.connections.invariant in
-    c.serve_one-next.ensures c.args.running.desk c.args.running.callers c.args.reload.now before.0 before.1
+    c.serve_connection-next.ensures c.args.running.desk c.args.running.callers c.args.reload.now before.0 before.1

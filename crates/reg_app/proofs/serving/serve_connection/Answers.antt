@@ -1,6 +1,6 @@
 use Rattle.std.proofs.Common.{inl, refl}
 use Rattle.reg_app.proofs.ServingLemmas.{look_on}
-use Rattle.reg_app.proofs.serving.serve_one.Goals as goal
+use Rattle.reg_app.proofs.serving.serve_connection.Goals as goal
 
 pub returns : goal.returns
 returns g c =
