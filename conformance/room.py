@@ -5,11 +5,12 @@ usage: conformance/room.py PROGRAM [MB..]      the last line is 'N passed, M fai
        conformance/room.py PROGRAM --measure   the address space that registers take, for the constants of
                                                crates/reg_tables/src/memory/room.rt
 
-Under each limit of address space (48, 96 and 256 MB where none is named) `serve` is given deposits of a kind until one
-is answered `out of memory`: of 1 kB, of 1 MB, and of 20 kB with many steps. The listing goes on. Then, under the same
+Under each limit of address space (48 to 256 MB where none is named) `serve` is given deposits of a kind until one is
+answered `out of memory`: of 1 kB, of 1 MB, and of 20 kB with many steps. The listing goes on. Then, under the same
 limit, a start lists as many deposits as there were receipts, draws the first one whole, and takes a deposit more or
-answers `out of memory`; a start after that lists what has a receipt. No less than half of the limit is used: the least
-limit under which the register opens is printed and counted. The same for `init` with a dictionary, and for `migrate`."""
+answers `out of memory`; a start after that lists what has a receipt. Of small deposits no less than half of the limit
+is used, of others no less than a third: the least limit under which the register opens is printed. What is said above
+three quarters is said once. The same for `init` with a dictionary, and for `migrate`."""
 import os
 import resource
 import sqlite3
@@ -23,9 +24,10 @@ import servers  # noqa: E402
 from servers import NEARLY_FULL, asking, head, post, sample  # noqa: E402
 
 MB = 1 << 20
-LIMITS = (48, 96, 256)
 LISTING = head(b"/v1/projects/N1/deposits", [])
+# As a fault of the start, and as the answer of the register.
 OUT_OF_MEMORY = (b"", b"groundreg: out of memory\n", 5)
+NO_MEMORY = (OUT_OF_MEMORY, (b"out of memory\n", b"", 5))
 NAME = b"North bank"
 
 
@@ -38,8 +40,9 @@ def renamed(text):
     return lambda number: text.replace(NAME, b"Site %05d" % number)
 
 
-# The files of each kind, by number.
+# The files of each kind, by number, and the limits in MB under which it is tried where none is named.
 KINDS = {"1 kB": small, "1 MB": renamed(files.deep(MB)), "steps": renamed(files.steps(20_000))}
+LIMITS = {"1 kB": (48, 96), "1 MB": (48, 96, 256), "steps": (48, 96, 256)}
 
 
 def limit_of(size):
@@ -91,27 +94,33 @@ def filled(place, file_of):
 
 def try_kind(place, kind, name):
     file_of = KINDS[kind]
-    taken, reply, listed, said = filled(place, file_of)
+    taken, reply, listed, told = filled(place, file_of)
     place.check(f"{name}: what is refused", b"HTTP/1.1 503", reply[:12])
     place.check(f"{name}: the listing after it", len(taken), listed.count(b'"number"'))
-    place.check(f"{name}: it is said once that it is nearly full", NEARLY_FULL, said)
+    if kind == "1 kB":
+        place.check(f"{name}: it is said once that the next start needs much", NEARLY_FULL, told)
+    else:
+        place.check(f"{name}: nothing else is said", b"", told.removeprefix(NEARLY_FULL))
     out, said, status = place.limited(*asking("list"))
     place.check(f"{name}: a start, and its lines", (len(taken), b"", 0), (out.count(b"\n"), said, status))
-    place.check(f"{name}: the start says that it is nearly full", True, place.is_nearly_full)
+    if told:
+        place.check(f"{name}: the start says that the next one needs much", True, place.is_nearly_full)
     if not taken:
         return
     out, said, status = place.limited(*asking("extract", "1"))
     place.check(f"{name}: the first deposit", (taken[0].rstrip(b"\r\n"), b"", 0), (out.rstrip(b"\r\n"), said, status))
     place.put("more", small(10**6))
     out, said, status = place.limited(*asking("deposit", "more", embargo=servers.DAY))
-    more = (out, said, status) != OUT_OF_MEMORY
-    place.check(f"{name}: a deposit more", ((b"receipt %d %s\n" % (len(taken) + 1, servers.DAY.encode()), b"", 0)
-                                            if more else OUT_OF_MEMORY), (out, said, status))
+    more = (out, said, status) not in NO_MEMORY
+    if more:
+        want = (b"receipt %d %s\n" % (len(taken) + 1, servers.DAY.encode()), b"", 0)
+        place.check(f"{name}: a deposit more", want, (out, said, status))
     out, said, status = place.limited(*asking("list"))
     place.check(f"{name}: a start after it", (len(taken) + more, b"", 0), (out.count(b"\n"), said, status))
     least = place.least(*asking("list"))
     print(f"{name}: {len(taken)} deposits of {len(taken[0])} bytes; opened under {least} MB", flush=True)
-    place.check(f"{name}: half of the limit is used", True, 2 * least * MB >= place.limit)
+    part = 2 if kind == "1 kB" else 3
+    place.check(f"{name}: 1/{part} of the limit is used", True, part * least * MB >= place.limit)
 
 
 def try_dictionary(place, name):
@@ -220,8 +229,8 @@ def main():
         return measure(program)
     passed = failed = 0
     with tempfile.TemporaryDirectory() as folder:
-        for limit in [int(word) for word in words[1:]] or LIMITS:
-            for kind in KINDS:
+        for kind in KINDS:
+            for limit in [int(word) for word in words[1:]] or LIMITS[kind]:
                 place = Place(program, folder, limit * MB)
                 place.make(dictionary="dictionary")
                 try_kind(place, kind, f"{kind} under {limit} MB")
