@@ -689,6 +689,7 @@ class Namer:
     def trait_members(self):
         """The ghost members and the laws of a trait; what its calls promise is each call's own contract."""
         members = list(ghost_members(self.item.lines))
+        self.bound |= self.generics(self.item.lines[:1])
         self.bound |= {re.match(r"\s+ghost (\w+):", lines[0])[1] for _, lines in members}
         for place, lines in members:
             self.ghost_text(lines, self.item.first + place)

@@ -19,7 +19,7 @@ use Rattle.reg_app.specs.declared.reload.Look.{Look}
 use Rattle.reg_app.specs.declared.reload.Look.TheVariants.{Same, Anew, Refused}
 
 module _ {K : Type 0} (keep : KeepGhosts K) where
-  -- a way of a connection asks the desk once at most
+  -- a way of a connection has one request at most
   way_asks : (callers : List Credential) (day : ℤ) (bytes : List ℕ) (old new : Desk K keep) (text : List ℕ) (status : ℕ)
       → Exchange (AnsweredBy keep) callers day bytes old new text status → AsksOnce callers old new
   way_asks callers day bytes old new text status (ways.silent is) = inl refl

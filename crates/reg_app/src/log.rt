@@ -4,7 +4,7 @@ use crate::moment::Moment;
 use ags_cli::{Fault, Watched};
 use reg_cli::Digests;
 use reg_http::Head;
-use reg_policy::{Caller, Day};
+use reg_policy::Day;
 use std::alloc::{AllocError, Global};
 use std::io::Write;
 
@@ -25,10 +25,10 @@ const LONGEST_LINE: usize = LONGEST_FRONT + LONGEST_GROUPS + 400;
 pub struct Log<W> {
     out: Watched<W>,
     /// Who asked what, as a line has it.
-    front: Vec<u8>,
+    front: String,
     /// The groups of an extract, as a line has them.
-    groups: Vec<u8>,
-    line: Vec<u8>,
+    groups: String,
+    line: String,
     /// The latest day of its lines.
     last_day: Option<Day>,
 }
@@ -59,9 +59,9 @@ impl<W: Write + Drop> Log<W> {
     pub fn new(alloc: Global, out: W, last_day: Option<Day>) -> Result<Log<W>, AllocError> {
         Ok(Log {
             out: Watched::new(out),
-            front: Vec::with_capacity(alloc, LONGEST_FRONT)?,
-            groups: Vec::with_capacity(alloc, LONGEST_GROUPS)?,
-            line: Vec::with_capacity(alloc, LONGEST_LINE)?,
+            front: String::with_capacity(alloc, LONGEST_FRONT)?,
+            groups: String::with_capacity(alloc, LONGEST_GROUPS)?,
+            line: String::with_capacity(alloc, LONGEST_LINE)?,
             last_day,
         })
     }
@@ -84,7 +84,13 @@ impl<W: Write + Drop> Log<W> {
     /// Notes who asked what: firm and role, method and path. No token is in it, since it has no field and no query.
     pub(crate) fn note_head(&mut self, head: &Head<'_>) -> Result<(), AllocError> {
         self.front.clear();
-        push_caller(&mut self.front, head.caller.map(|(caller, _token)| caller))?;
+        match head.caller {
+            Some((caller, _token)) => {
+                push_shown(&mut self.front, caller.firm.text().as_bytes())?;
+                push_shown(&mut self.front, caller.role.text().as_bytes())?;
+            }
+            None => self.front.push_str(" - -")?,
+        }
         push_shown(&mut self.front, head.method)?;
         push_shown(&mut self.front, head.path.as_bytes())
     }
@@ -93,9 +99,8 @@ impl<W: Write + Drop> Log<W> {
     pub(crate) fn note_groups(&mut self, groups: &[&[u8]]) -> Result<(), AllocError> {
         self.groups.clear();
         for group in groups {
-            if !self.groups.is_empty() {
-                self.groups.extend_from_slice(b",")?;
-            }
+            let between = if self.groups.is_empty() { " " } else { "," };
+            self.groups.push_str(between)?;
             push_escaped(&mut self.groups, group)?;
         }
         Ok(())
@@ -104,21 +109,16 @@ impl<W: Write + Drop> Log<W> {
     /// Appends the line of a connection, and has it passed on.
     pub(crate) fn append(&mut self, facts: &Facts) -> Result<(), Fault> {
         self.begin_line(facts.moment)?;
-        if self.front.is_empty() {
-            self.line.extend_from_slice(b" - - - -")?;
+        push_part(&mut self.line, &self.front, " - - - -")?;
+        match facts.status {
+            Some(status) => write!(self.line, " {status}")?,
+            None => self.line.push_str(" fault")?,
         }
-        self.line.extend_from_slice(&self.front)?;
-        push_status(&mut self.line, facts.status)?;
-        push_number(&mut self.line, Some(facts.received))?;
-        push_number(&mut self.line, Some(facts.replied))?;
-        push_number(&mut self.line, Some(facts.millis))?;
-        push_number(&mut self.line, facts.number.map(u64::from))?;
-        self.line.extend_from_slice(b" ")?;
-        if self.groups.is_empty() {
-            self.line.extend_from_slice(b"-")?;
-        }
-        self.line.extend_from_slice(&self.groups)?;
-        push_number(&mut self.line, facts.rule.map(u64::from))?;
+        let (received, replied, millis) = (facts.received, facts.replied, facts.millis);
+        write!(self.line, " {received} {replied} {millis}")?;
+        push_number(&mut self.line, facts.number)?;
+        push_part(&mut self.line, &self.groups, " -")?;
+        push_number(&mut self.line, facts.rule)?;
         push_token(&mut self.line, facts.token)?;
         self.end_line()
     }
@@ -132,9 +132,9 @@ impl<W: Write + Drop> Log<W> {
         digests: &Digests,
     ) -> Result<(), Fault> {
         self.begin_line(moment)?;
-        write!(self.line, " * {event} {version} policy ").map_err(|_| AllocError)?;
+        write!(self.line, " * {event} {version} policy ")?;
         push_hex(&mut self.line, &digests.policy)?;
-        self.line.extend_from_slice(b" callers ")?;
+        self.line.push_str(" callers ")?;
         push_hex(&mut self.line, &digests.callers)?;
         self.end_line()
     }
@@ -147,102 +147,81 @@ impl<W: Write + Drop> Log<W> {
         reason: &[u8],
     ) -> Result<(), Fault> {
         self.begin_line(moment)?;
-        write!(self.line, " * {event} refused ").map_err(|_| AllocError)?;
-        push_text(&mut self.line, &reason[..reason.len().min(MOST_SHOWN)])?;
+        write!(self.line, " * {event} refused")?;
+        for word in first_bytes(reason).split(|byte| *byte == b' ') {
+            push_shown(&mut self.line, word)?;
+        }
         self.end_line()
     }
 
     /// Begins a line with its time.
     fn begin_line(&mut self, moment: Option<Moment>) -> Result<(), AllocError> {
         self.line.clear();
-        let Some(moment) = moment else {
-            return self.line.extend_from_slice(b"-");
+        let Some(Moment { day, second }) = moment else {
+            return self.line.push_str("-");
         };
-        self.last_day = self.last_day.max(Some(moment.day));
-        self.line.extend_from_slice(&moment.day.text())?;
-        self.line.extend_from_slice(b"T")?;
-        self.line.extend_from_slice(&moment.time_text())?;
-        self.line.extend_from_slice(b"Z")
+        self.last_day = self.last_day.max(Some(day));
+        push_escaped(&mut self.line, &day.text())?;
+        let (hours, minutes, seconds) = (second / 3_600, second / 60 % 60, second % 60);
+        write!(self.line, "T{hours:02}:{minutes:02}:{seconds:02}Z")
     }
 
     /// Ends a line, and writes it.
     fn end_line(&mut self) -> Result<(), Fault> {
-        self.line.extend_from_slice(b"\n")?;
-        Ok(self.out.write_text(&self.line)?)
+        self.line.push_str("\n")?;
+        Ok(self.out.write_text(self.line.as_bytes())?)
     }
 }
 
-/// Appends the firm and the role of a caller.
-fn push_caller(line: &mut Vec<u8>, caller: Option<&Caller>) -> Result<(), AllocError> {
-    let Some(caller) = caller else {
-        return line.extend_from_slice(b" - -");
-    };
-    push_shown(line, caller.firm.text().as_bytes())?;
-    push_shown(line, caller.role.text().as_bytes())
-}
-
-/// Appends a status, or that the connection failed.
-fn push_status(line: &mut Vec<u8>, status: Option<u16>) -> Result<(), AllocError> {
-    match status {
-        Some(status) => push_number(line, Some(u64::from(status))),
-        None => line.extend_from_slice(b" fault"),
-    }
+/// Appends a part of a line, or what is there where it has none.
+fn push_part(line: &mut String, part: &String, none: &str) -> Result<(), AllocError> {
+    line.push_str(if part.is_empty() { none } else { part.as_str() })
 }
 
 /// Appends a space and a number, if there is one.
-fn push_number(line: &mut Vec<u8>, number: Option<u64>) -> Result<(), AllocError> {
+fn push_number(line: &mut String, number: Option<u32>) -> Result<(), AllocError> {
     match number {
-        Some(number) => write!(line, " {number}").map_err(|_| AllocError),
-        None => line.extend_from_slice(b" -"),
+        Some(number) => write!(line, " {number}"),
+        None => line.push_str(" -"),
     }
 }
 
 /// Appends a space and what is shown of a token, if it is known.
-fn push_token(line: &mut Vec<u8>, token: Option<[u8; 4]>) -> Result<(), AllocError> {
-    line.extend_from_slice(b" ")?;
-    match token {
-        Some(token) => push_hex(line, &token),
-        None => line.extend_from_slice(b"-"),
-    }
+fn push_token(line: &mut String, token: Option<[u8; 4]>) -> Result<(), AllocError> {
+    let Some(token) = token else {
+        return line.push_str(" -");
+    };
+    line.push_str(" ")?;
+    push_hex(line, &token)
 }
 
 /// Appends bytes as pairs of hexadecimal digits.
-fn push_hex(line: &mut Vec<u8>, bytes: &[u8]) -> Result<(), AllocError> {
+fn push_hex(line: &mut String, bytes: &[u8]) -> Result<(), AllocError> {
     for byte in bytes {
-        write!(line, "{byte:02x}").map_err(|_| AllocError)?;
+        write!(line, "{byte:02x}")?;
     }
     Ok(())
 }
 
 /// Appends a space and the first bytes of a text.
-fn push_shown(line: &mut Vec<u8>, bytes: &[u8]) -> Result<(), AllocError> {
-    line.extend_from_slice(b" ")?;
-    push_escaped(line, &bytes[..bytes.len().min(MOST_SHOWN)])
+fn push_shown(line: &mut String, bytes: &[u8]) -> Result<(), AllocError> {
+    line.push_str(" ")?;
+    push_escaped(line, first_bytes(bytes))
+}
+
+/// As many bytes of a text as a line has of it.
+fn first_bytes(bytes: &[u8]) -> &[u8] {
+    &bytes[..bytes.len().min(MOST_SHOWN)]
 }
 
 /// Appends bytes, of which each that is no printable ASCII, and each backslash, is `\x` and two digits.
-fn push_escaped(line: &mut Vec<u8>, bytes: &[u8]) -> Result<(), AllocError> {
+fn push_escaped(line: &mut String, bytes: &[u8]) -> Result<(), AllocError> {
     for byte in bytes {
-        push_byte(line, *byte)?;
-    }
-    Ok(())
-}
-
-/// Appends the same, with its spaces.
-fn push_text(line: &mut Vec<u8>, text: &[u8]) -> Result<(), AllocError> {
-    for byte in text {
-        if *byte == b' ' {
-            line.extend_from_slice(b" ")?;
+        if byte.is_ascii_graphic() && *byte != b'\\' {
+            line.push(char::from(*byte))?;
         } else {
-            push_byte(line, *byte)?;
+            write!(line, "\\x{byte:02x}")?;
         }
     }
     Ok(())
-}
-
-fn push_byte(line: &mut Vec<u8>, byte: u8) -> Result<(), AllocError> {
-    if byte.is_ascii_graphic() && byte != b'\\' {
-        return line.extend_from_slice(&[byte]);
-    }
-    write!(line, "\\x{byte:02x}").map_err(|_| AllocError)
 }

@@ -4,7 +4,7 @@ use crate::log::Log;
 use reg_cli::{Failure, Service};
 use reg_policy::Day;
 use std::alloc::Global;
-use std::fs::{File, Metadata, OpenOptions};
+use std::fs::{File, OpenOptions};
 use std::io::Write;
 use std::os::unix::fs::{FileExt, MetadataExt, OpenOptionsExt};
 use std::str::from_utf8;
@@ -51,13 +51,9 @@ fn open_appending(rt: &HostRuntime, path: &str) -> io::Result<File> {
 /// Whether a path names an open file.
 fn is_at(rt: &HostRuntime, file: &File, path: &str) -> bool {
     match (file.metadata(), fs::metadata(rt, path)) {
-        (Ok(open), Ok(found)) => are_same(&open, &found),
+        (Ok(open), Ok(found)) => open.dev() == found.dev() && open.ino() == found.ino(),
         _ => false,
     }
-}
-
-fn are_same(open: &Metadata, found: &Metadata) -> bool {
-    open.dev() == found.dev() && open.ino() == found.ino()
 }
 
 /// Ends the last line of a log where it is not ended, and gives the latest day that its last lines have.

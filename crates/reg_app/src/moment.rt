@@ -10,7 +10,7 @@ const SECONDS_OF_A_DAY: u64 = 86_400;
 pub(crate) struct Moment {
     pub(crate) day: Day,
     /// The seconds of the day before it.
-    second: u64,
+    pub(crate) second: u64,
 }
 
 impl Moment {
@@ -24,17 +24,4 @@ impl Moment {
             second: seconds % SECONDS_OF_A_DAY,
         })
     }
-
-    /// Its text, `hh:mm:ss`, without the day.
-    pub(crate) fn time_text(self) -> [u8; 8] {
-        let [h1, h2] = last_two_digits(self.second / 3_600);
-        let [m1, m2] = last_two_digits(self.second / 60 % 60);
-        let [s1, s2] = last_two_digits(self.second % 60);
-        [h1, h2, b':', m1, m2, b':', s1, s2]
-    }
-}
-
-/// The last two digits of a number.
-fn last_two_digits(number: u64) -> [u8; 2] {
-    [b'0' + (number / 10 % 10) as u8, b'0' + (number % 10) as u8]
 }

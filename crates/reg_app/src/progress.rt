@@ -41,11 +41,6 @@ impl<'c, 'e, C: Clock, E: Write> ProgressLines<'c, 'e, C, E> {
         }
     }
 
-    /// Whether lines are wanted.
-    pub(crate) fn is_wanted(&self) -> bool {
-        self.is_wanted
-    }
-
     /// Says how many bytes are read. No clause says so.
     pub fn say_bytes(&mut self, bytes: u64) {
         if let Ok(line) = format!(in self.alloc; "reading {bytes} bytes\n") {

@@ -91,8 +91,8 @@ fn find_file<C: Clock, E: Write>(
     if is_absent(rt, path) {
         return Err(Fault::NotRegister);
     }
-    if lines.is_wanted() {
-        say_size(rt, alloc, path, lines);
+    if let Some(bytes) = register_bytes(rt, alloc, path) {
+        lines.say_bytes(bytes);
     }
     Ok(())
 }
@@ -109,34 +109,20 @@ pub(crate) fn make_private(rt: &HostRuntime, store: &str) {
 
 /// Whether a path names nothing, in a folder that is there.
 fn is_absent(rt: &HostRuntime, path: &str) -> bool {
-    match fs::symlink_metadata(rt, path) {
-        Err(error) if error.kind() == ErrorKind::NotFound => has_folder(rt, path),
-        _ => false,
-    }
+    let found = fs::symlink_metadata(rt, path);
+    found.is_err_and(|error| error.kind() == ErrorKind::NotFound) && has_folder(rt, path)
 }
 
 /// Whether the folder of a path is there.
 fn has_folder(rt: &HostRuntime, path: &str) -> bool {
     match Path::new(path).parent() {
         Some(folder) if folder.as_str().is_empty() => true,
-        Some(folder) => matches!(fs::metadata(rt, folder), Ok(found) if found.is_dir()),
+        Some(folder) => fs::metadata(rt, folder).is_ok_and(|found| found.is_dir()),
         None => false,
     }
 }
 
-/// Says how many bytes the register in the file at a path has, if the file is there.
-fn say_size<C: Clock, E: Write>(
-    rt: &HostRuntime,
-    alloc: Global,
-    path: &str,
-    lines: &mut ProgressLines<'_, '_, C, E>,
-) {
-    if let Some(bytes) = register_bytes(rt, alloc, path) {
-        lines.say_bytes(bytes);
-    }
-}
-
-/// The bytes of the file at a path and of the log beside it.
+/// The bytes of the file at a path and of the log beside it, if the file is there.
 fn register_bytes(rt: &HostRuntime, alloc: Global, path: &str) -> Option<u64> {
     let file = file_bytes(rt, path)?;
     let log = format!(in alloc; "{path}-wal").ok()?;
@@ -146,8 +132,6 @@ fn register_bytes(rt: &HostRuntime, alloc: Global, path: &str) -> Option<u64> {
 
 /// The bytes of the file at a path, if there is one.
 fn file_bytes(rt: &HostRuntime, path: &str) -> Option<u64> {
-    match fs::metadata(rt, path) {
-        Ok(found) if found.is_file() => Some(found.len()),
-        _ => None,
-    }
+    let found = fs::metadata(rt, path).ok()?;
+    found.is_file().then(|| found.len())
 }

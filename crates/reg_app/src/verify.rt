@@ -21,7 +21,10 @@ pub(crate) fn verify<'w, G: Registers, W: Write, E: Write>(
     out: &mut Watched<W>,
     err: &mut Watched<E>,
 ) -> Result<u8, Failure<'w>> {
-    let log = open_lines(rt, verification.log)?;
+    let log = match verification.log {
+        Some(path) => Some((open_lines(rt, path)?, path)),
+        None => None,
+    };
     let kept = open_shown(
         rt,
         machine,
@@ -34,18 +37,9 @@ pub(crate) fn verify<'w, G: Registers, W: Write, E: Write>(
     done
 }
 
-/// The log at a path, open, with its path.
-fn open_lines<'w>(
-    rt: &HostRuntime,
-    path: Option<&'w str>,
-) -> Result<Option<(File, &'w str)>, Failure<'w>> {
-    let Some(path) = path else {
-        return Ok(None);
-    };
-    match fs::open(rt, path) {
-        Ok(file) => Ok(Some((file, path))),
-        Err(_) => Err(Failure::CannotRead(path)),
-    }
+/// The log at a path, open.
+fn open_lines<'w>(rt: &HostRuntime, path: &'w str) -> Result<File, Failure<'w>> {
+    fs::open(rt, path).map_err(|_| Failure::CannotRead(path))
 }
 
 /// Verifies a store, which is returned.
@@ -125,9 +119,7 @@ fn compare_log<'w, K: Keep, W: Write>(
     path: &'w str,
     out: &mut Watched<W>,
 ) -> Result<u8, Failure<'w>> {
-    let Ok(reader) = BufReader::new(alloc, file) else {
-        return Err(Failure::Plain(Fault::NoMemory));
-    };
+    let reader = BufReader::new(alloc, file).map_err(|_| Fault::NoMemory)?;
     let mut compared = 0u32;
     let mut status = 0;
     for line in reader.lines(alloc) {
