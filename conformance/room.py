@@ -127,7 +127,7 @@ def try_dictionary(place, name):
     """A dictionary is taken under a limit only where the register then opens under it."""
     words = ["init", "--store=register", "--dictionary=dictionary"]
     taken = 0
-    for size in range(8, place.limit // MB, 2):
+    for size in range(8, place.limit // MB, 3):
         out, said, status = place.limited(*words, limit=size * MB)
         if status:
             place.check(f"{name}: {size} MB", OUT_OF_MEMORY, (out, said, status))
@@ -159,7 +159,7 @@ def try_migrate(place, name):
     place.right(*asking("deposit", "given", embargo=servers.DAY))
     place.copy_as_format_1("register", "first")
     taken = 0
-    for size in range(10, 60, 2):
+    for size in range(10, place.limit // MB, 3):
         place.copy("first", "register")
         out, said, status = place.limited("migrate", "--store=register", limit=size * MB)
         if status:
@@ -236,7 +236,7 @@ def main():
                 try_kind(place, kind, f"{kind} under {limit} MB")
                 passed, failed = passed + place.passed, failed + place.failed
         for trying, name in ((try_dictionary, "init"), (try_migrate, "migrate")):
-            place = Place(program, folder, 64 * MB, dictionaries.large(1000, 100_000))
+            place = Place(program, folder, 96 * MB, dictionaries.large())
             trying(place, name)
             passed, failed = passed + place.passed, failed + place.failed
     print(f"{passed} passed, {failed} failed")
