@@ -246,4 +246,5 @@ def main():
             table(os.path.abspath(sys.argv[1]), size, folder)
 
 
-main()
+if __name__ == "__main__":
+    main()
