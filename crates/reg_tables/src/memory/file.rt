@@ -13,7 +13,7 @@ use std::alloc::{AllocError, Global};
 #[derive(Drop)]
 pub(crate) struct KnownFile {
     pub size: Size,
-    /// Its row of PROJ and the rows that it reaches, if they are short.
+    /// Its row of PROJ and the rows that it reaches.
     pub project: Option<Vec<HeadedRow>>,
 }
 
@@ -30,21 +30,12 @@ impl KnownFile {
         let project = project_rows_in(alloc, rows, file.graph())?;
         let bytes = file.bytes().len();
         let held = bytes_held(&project);
-        if held > MOST_HELD {
-            return Ok(KnownFile {
-                size: Size::of(file, bytes),
-                project: None,
-            });
-        }
         Ok(KnownFile {
             size: Size::of(file, bytes.saturating_add(held)),
             project: Some(project),
         })
     }
 }
-
-/// The most bytes that rows take in memory.
-const MOST_HELD: usize = 4_096;
 
 /// The bytes of memory that the rows take at most.
 fn bytes_held(rows: &[HeadedRow]) -> usize {

@@ -9,4 +9,4 @@ returns c =
     let file = c.args.file.now in
     let project = c.in_ok-project.project in
     let its = project_of_file file c.args.rows.now c.graph.result.now project.items c.bytes-bytes.ensures.clean c.requires c.graph.ensures c.in_ok-project.ensures in
-    record { rows = c.of-2.ensures; project = λ held is. ∣ subst (λ all. HasProjectRows all file) (same_Some project held is) its ∣₁ }
+    record { rows = c.of.ensures; project = λ held is. ∣ subst (λ all. HasProjectRows all file) (same_Some project held is) its ∣₁ }
