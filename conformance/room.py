@@ -42,7 +42,7 @@ def renamed(text):
 
 # The files of each kind, by number, and the limits in MB under which it is tried where none is named.
 KINDS = {"1 kB": small, "1 MB": renamed(files.deep(MB)), "steps": renamed(files.steps(20_000))}
-LIMITS = {"1 kB": (48, 96), "1 MB": (48, 96, 256), "steps": (48, 96, 256)}
+LIMITS = {"1 kB": (48, 96), "1 MB": (48, 96, 256), "steps": (48, 96)}
 
 
 def limit_of(size):
