@@ -117,6 +117,8 @@ def of_moving(page):
     middle = {"x": x + width / 2, "y": y + height / 2}
     b.command("Input.dispatchMouseEvent", type="mouseWheel", deltaX=0, deltaY=-200, **middle)
     page.check("the wheel zooms in", True, b.until(True, lambda: scales(page)[0][0] > 1.1 * first[0][0]))
+    # D3 ends a turn of the wheel a moment later, and with it a move of a finger that has begun by then.
+    b.until(True, lambda: b.run("return !document.querySelector('#look-result .plan svg').__zooming;"))
     b.press("0")
     b.command("Input.dispatchMouseEvent", type="mousePressed", button="left", clickCount=1, **middle)
     beside = {"x": middle["x"] + 40, "y": middle["y"]}
@@ -126,7 +128,6 @@ def of_moving(page):
     b.press("0")
     for kind, right in (("touchStart", 0), ("touchMove", 25), ("touchMove", 50)):
         b.command("Input.dispatchTouchEvent", type=kind, touchPoints=[{"x": middle["x"] + right, "y": middle["y"]}])
-    # A finger that is taken away at once may take its last move with it, where the machine is slow.
     page.check("a finger moves it", 50, b.until(50, lambda: round(scales(page)[0][1] - first[0][1])))
     b.command("Input.dispatchTouchEvent", type="touchEnd", touchPoints=[])
     b.press("0")
