@@ -117,7 +117,7 @@ def of_moving(page):
     middle = {"x": x + width / 2, "y": y + height / 2}
     b.command("Input.dispatchMouseEvent", type="mouseWheel", deltaX=0, deltaY=-200, **middle)
     page.check("the wheel zooms in", True, b.until(True, lambda: scales(page)[0][0] > 1.1 * first[0][0]))
-    # D3 ends what the wheel began a moment later, and with it a move of a finger that has begun by then.
+    # The plan ends what the wheel began a moment later, and with it a move of a finger that has begun by then.
     b.until(True, lambda: b.run("return !document.querySelector('#look-result .plan svg').__zooming;"))
     b.press("0")
     b.command("Input.dispatchMouseEvent", type="mousePressed", button="left", clickCount=1, **middle)
