@@ -420,7 +420,7 @@ class House:
     def read_crate(self, crate):
         folder = f"crates/{crate}/specs"
         for module in self.modules_of(folder):
-            source = Source(self, crate, f"{folder}/{module}.antt")
+            source = Source(self, crate, f"{folder}/{module.replace('.', '/')}.antt")
             AnttReader(source).read()
             self.specs[crate, module] = source
         for folder, _, names in sorted(os.walk(os.path.join(self.root, f"crates/{crate}/src"))):
@@ -431,13 +431,15 @@ class House:
                     RustReader(source).read()
                     self.rust[crate, path.split("/src/")[1].removesuffix(".rt").replace("/", ".")] = source
 
-    def modules_of(self, folder):
-        """The modules of a crate's definitions, in the order in which Lib.antt names them; a crate may have none."""
-        path = os.path.join(self.root, folder, "Lib.antt")
+    def modules_of(self, folder, inside=""):
+        """The modules of a crate's definitions, in the order in which Lib.antt and the files of folders name them; a
+        crate may have none."""
+        path = os.path.join(self.root, folder, f"{inside.replace('.', '/') or 'Lib'}.antt")
         if not os.path.exists(path):
             return []
         with open(path, encoding="utf-8") as file:
-            return re.findall(r"^pub mod (\w+)$", file.read(), re.M)
+            names = [f"{inside}.{name}".lstrip(".") for name in re.findall(r"^pub mod (\w+)$", file.read(), re.M)]
+        return [module for name in names for module in (name, *self.modules_of(folder, name))]
 
     # ---- what a name stands for
 

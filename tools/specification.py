@@ -104,8 +104,9 @@ def module_order(house, crate):
         paths = [path for path, _, _ in source.imports.values()] + [path for path, _ in source.modules.values()]
         for path in paths:
             words = path.split(".")
-            if words[1:3] == [crate, "specs"] and (crate, words[3]) in house.specs:
-                place(words[3])
+            module = ".".join(words[3:])
+            if words[1:3] == [crate, "specs"] and (crate, module) in house.specs:
+                place(module)
         placed.append(name)
 
     for owner, name in house.specs:

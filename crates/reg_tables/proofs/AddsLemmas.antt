@@ -24,10 +24,10 @@ use Rattle.reg_store.specs.declared.keep.KeptRow.{KeptRow}
 use Rattle.reg_tables.specs.Tables.{register_schema}
 use Rattle.reg_store.specs.Sent.{Sent}
 use Rattle.reg_tables.specs.Rows.{columns_5, columns_3, given_deposit, joined, line_row, line_rows, step_row, step_rows, IsMore}
-use Rattle.reg_tables.specs.Inserts.{AddsTo, AddsDeposit, AddsLines, AddsSteps, AddsFile}
-use Rattle.reg_tables.specs.Commits.{Makes}
-use Rattle.reg_tables.specs.Inside.{Inside}
-use Rattle.reg_tables.specs.KeepLaws.{ChangesOf}
+use Rattle.reg_tables.specs.Private.Inserts.{AddsTo, AddsDeposit, AddsLines, AddsSteps, AddsFile}
+use Rattle.reg_tables.specs.Private.Commits.{Makes}
+use Rattle.reg_tables.specs.Private.Inside.{Inside}
+use Rattle.reg_tables.specs.Private.KeepLaws.{ChangesOf}
 use Rattle.reg_tables.specs.Register.{KeepsRegister}
 
 pub more_then : (old xs mid ys new : List Row) → IsMore old xs mid → IsMore mid ys new → IsMore old (xs ++ ys) new

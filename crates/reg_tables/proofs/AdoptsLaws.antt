@@ -24,10 +24,10 @@ use Rattle.reg_tables.proofs.MeaningLaws.{all_numbers, all_numbers_read, by_numb
 use Rattle.reg_tables.proofs.MeaningLaws.{all_meta_read}
 use Rattle.reg_tables.specs.Rows.{columns_5, deposit_table, given_deposit, columns_3, rows_under, first_column, has_number}
 use Rattle.reg_tables.specs.Register.{deposit_rows}
-use Rattle.reg_tables.specs.Pushes.{equal_at, apart_at}
+use Rattle.reg_tables.specs.Private.Pushes.{equal_at, apart_at}
 use Rattle.reg_tables.proofs.AnswersLaws.{answers, shows_all, shows_rows}
 use Rattle.reg_tables.proofs.ReadsLaws.{equal_order, of_number}
-use Rattle.reg_tables.specs.Adopts.{number_rows}
+use Rattle.reg_tables.specs.Private.Adopts.{number_rows}
 
 -- ---- what the queries show
 

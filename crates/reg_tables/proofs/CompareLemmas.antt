@@ -13,7 +13,7 @@ use Rattle.reg_store.specs.declared.keep.KeptRow.{KeptRow}
 use Rattle.reg_tables.specs.Tables.{HasTables}
 use Rattle.reg_tables.proofs.Texts.{select_lines, select_steps}
 use Rattle.reg_tables.specs.Rows.{placed_rows, step_pair}
-use Rattle.reg_tables.specs.Methods.{HoldsLines, HoldsSteps}
+use Rattle.reg_tables.specs.Private.Methods.{HoldsLines, HoldsSteps}
 use Rattle.reg_tables.proofs.ReadsLaws.{holds_lines, reads_lines}
 use Rattle.reg_tables.proofs.ReadsStepsLaws.{holds_steps, reads_steps}
 use Rattle.reg_tables.specs.Whole.{Compares, Tests}

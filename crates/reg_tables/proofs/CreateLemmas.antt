@@ -5,16 +5,16 @@ use Rattle.sqlite.specs.Effect.{Database}
 use Rattle.ags_dict.specs.Entries.{Entries}
 use Rattle.ags_dict.specs.Reading.{IsDictionary}
 use Rattle.reg_tables.specs.Register.{deposits_in, IsRegister, KeepsRegister, tables}
-use Rattle.reg_tables.specs.ReadBack.{read_back}
+use Rattle.reg_tables.specs.Private.ReadBack.{read_back}
 use Rattle.sqlite.specs.State.{State, Survives}
 use Rattle.sqlite.proofs.StateLemmas.{survives_weaker}
 use Rattle.ags_rows.specs.declared.TheConstants.{READABLE}
 use Rattle.reg_tables.specs.Tables.{first_schema, no_schema}
 use Rattle.reg_tables.proofs.Texts.{create_meta, create_deposits, create_lines, create_steps, create_withdrawals, fill_meta}
 use Rattle.reg_tables.proofs.InsertsLaws.{fills_meta}
-use Rattle.reg_tables.specs.Commits.{Makes}
-use Rattle.reg_tables.specs.Inside.{Inside, Ran}
-use Rattle.reg_tables.specs.KeepLaws.{ChangesOf}
+use Rattle.reg_tables.specs.Private.Commits.{Makes}
+use Rattle.reg_tables.specs.Private.Inside.{Inside, Ran}
+use Rattle.reg_tables.specs.Private.KeepLaws.{ChangesOf}
 use Rattle.reg_tables.specs.Making.{AreDictionary}
 use Rattle.reg_tables.specs.Creates.{HasFirst, HasFour, IsEmptyRegister, IsNewRegister, MakesWithdrawals}
 use Rattle.reg_tables.specs.Creates.{SurvivesMaking}

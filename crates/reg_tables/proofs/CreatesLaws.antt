@@ -17,7 +17,7 @@ use Rattle.ags_dict.specs.Entries.{Entries}
 use Rattle.ags_dict.specs.Reading.{IsDictionary}
 use Rattle.reg_tables.specs.Tables.{no_schema, first_schema}
 use Rattle.reg_tables.proofs.MeaningLaws.{MakesTable, with_lines}
-use Rattle.reg_tables.specs.Meaning.{with_meta, with_deposits}
+use Rattle.reg_tables.specs.Private.Meaning.{with_meta, with_deposits}
 use Rattle.reg_tables.specs.Rows.{columns_3, columns_5, dictionary_row, format_row, first_column, rows_under}
 use Rattle.reg_tables.proofs.InsertsLaws.{FillsMeta, meta_rows, same_value, went}
 use Rattle.reg_tables.specs.Register.{tables}

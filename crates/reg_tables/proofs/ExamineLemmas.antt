@@ -30,14 +30,14 @@ use Rattle.reg_store.specs.Fit.{IsFileOf, IsNamed, kept_rows}
 use Rattle.reg_tables.specs.Rows.{columns_3, deposit_table, dictionary_row, format_row, given_deposit, first_column, has_number}
 use Rattle.reg_store.specs.Deposit.{sents}
 use Rattle.reg_tables.specs.declared.schema.format.Format.{Format}
-use Rattle.reg_tables.specs.Found.{AreMetaByName}
+use Rattle.reg_tables.specs.Private.Found.{AreMetaByName}
 use Rattle.reg_tables.specs.Tables.{HasTables, format_number, schema_of}
 use Rattle.reg_tables.specs.Register.{HoldsSent, deposit_rows, integer_in, meta_columns}
-use Rattle.reg_tables.specs.RegisterLaws.{rows-length}
-use Rattle.reg_tables.specs.Digests.{AreBelow, HasEqual, HasNoEqual, HoldsDigests, IsFirst, IsNew, is_among, numbers_under, own_digest}
-use Rattle.reg_tables.specs.Heads.{IsDigestedAt, IsDigestedFrom, IsKnownOf, KnowsFile}
+use Rattle.reg_tables.specs.Private.RegisterLaws.{rows-length}
+use Rattle.reg_tables.specs.Private.Digests.{AreBelow, HasEqual, HasNoEqual, HoldsDigests, IsFirst, IsNew, is_among, numbers_under, own_digest}
+use Rattle.reg_tables.specs.Private.Heads.{IsDigestedAt, IsDigestedFrom, IsKnownOf, KnowsFile}
 use Rattle.reg_tables.specs.declared.memory.file.KnownFile.{KnownFile}
-use Rattle.reg_tables.specs.Methods.{HoldsLines, HoldsSteps}
+use Rattle.reg_tables.specs.Private.Methods.{HoldsLines, HoldsSteps}
 use Rattle.reg_tables.proofs.MethodsLaws.{same_deposit, same_file}
 use Rattle.reg_tables.proofs.RepeatsLemmas.{false_if, same_digest}
 use Rattle.reg_tables.specs.declared.error.AdoptError.{AdoptError}
@@ -45,7 +45,7 @@ use Rattle.reg_tables.specs.declared.error.AdoptError.TheVariants.{NotRegister, 
 use Rattle.reg_tables.specs.Formats.{IsFormatRow}
 use Rattle.reg_tables.specs.Adoption.{Adopts, CountsDeposits, Examines, HasNoOtherFormat, MetaOf, ReadsMeta}
 use Rattle.reg_tables.proofs.RowsLemmas.{numbers_long}
-use Rattle.reg_tables.specs.Adopts.{number_rows}
+use Rattle.reg_tables.specs.Private.Adopts.{number_rows}
 use Rattle.reg_tables.specs.Whole.{AreWhole, Counts, HasMeta, HoldsBody, IsWhole, Tests}
 use Rattle.reg_tables.proofs.WholeLaws.{adopts_whole, of_all, whole_at}
 use Rattle.reg_tables.proofs.TablesLemmas.{tables_first}

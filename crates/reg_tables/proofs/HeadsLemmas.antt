@@ -9,8 +9,8 @@ use Rattle.reg_store.specs.Sent.{Sent}
 use Rattle.reg_tables.specs.declared.memory.Known.{Known}
 use Rattle.reg_tables.specs.Rows.{deposit_table}
 use Rattle.reg_tables.specs.Register.{deposit_rows}
-use Rattle.reg_tables.specs.Digests.{IsRowOf}
-use Rattle.reg_tables.specs.Heads.{AreNew, HoldsKnown, IsNewOf}
+use Rattle.reg_tables.specs.Private.Digests.{IsRowOf}
+use Rattle.reg_tables.specs.Private.Heads.{AreNew, HoldsKnown, IsNewOf}
 use Rattle.reg_tables.proofs.ShowsLaws.{row_of_number}
 
 -- what is in a list after a push was in it, or is what was pushed

@@ -34,7 +34,7 @@ use Rattle.reg_tables.proofs.MeaningLaws.{eight_step_terms, eight_steps_are, fil
 use Rattle.reg_tables.specs.Rows.{columns_5, columns_3, joined, line_row, line_rows, step_row, step_rows, given_deposit}
 use Rattle.reg_tables.specs.Rows.{dictionary_row, format_row, first_column, number_row}
 use Rattle.reg_tables.proofs.PutLaws.{cast_int, IsBlind, AreSeen, seen_blind, all_seen}
-use Rattle.reg_tables.specs.Inserts.{AddsTo, AddsDeposit, AddsLines, AddsSteps, AddsMark}
+use Rattle.reg_tables.specs.Private.Inserts.{AddsTo, AddsDeposit, AddsLines, AddsSteps, AddsMark}
 
 pub same_value : {B E : Type 0} {a b : B} → ◌≡◌ {A = Result B E} (Ok a) (Ok b) → a ≡ b
 same_value e = cc

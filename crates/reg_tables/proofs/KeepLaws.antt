@@ -15,20 +15,20 @@ use Rattle.ags_check.specs.Findings.{CheckedFile}
 use Rattle.reg_store.specs.Sent.{Sent}
 use Rattle.reg_store.specs.Deposit.{Deposit, marked, sents, unmarked}
 use Rattle.reg_tables.specs.Tables.{register_schema}
-use Rattle.reg_tables.specs.Inserts.{AddsFile, AddsMark}
+use Rattle.reg_tables.specs.Private.Inserts.{AddsFile, AddsMark}
 use Rattle.reg_tables.proofs.MethodsLaws.{slice_get_in}
 use Rattle.reg_store.specs.Fit.{kept_rows}
 use Rattle.sqlite.specs.Order.{Row}
 use Rattle.reg_tables.specs.Rows.{columns_3}
 use Rattle.reg_tables.specs.Register.{deposits_in, dictionary_body, text_in, LeavesBroken, LeavesList, KeepsRegister, IsRegister, tables}
 use Rattle.reg_tables.proofs.RegisterLaws.{IsReady}
-use Rattle.reg_tables.specs.ReadBack.{read_back}
+use Rattle.reg_tables.specs.Private.ReadBack.{read_back}
 use Rattle.reg_tables.proofs.ReadBackLaws.{register_mark, register_push}
 use Rattle.reg_tables.specs.Quiet.{IsIdle, IsStill}
 use Rattle.reg_tables.proofs.AddsLemmas.{opened_at}
 use Rattle.reg_tables.proofs.QuietLaws.{clean_before}
 use Rattle.reg_tables.proofs.TablesLemmas.{register_tables}
-use Rattle.reg_tables.specs.KeepLaws.{under_schema, ChangesOf}
+use Rattle.reg_tables.specs.Private.KeepLaws.{under_schema, ChangesOf}
 
 pub schema_set : (a b : Schema) → IsProp (a ≡ b)
 schema_set a b = Coded-set the_row.coded a b

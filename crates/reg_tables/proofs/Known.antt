@@ -2,7 +2,7 @@
 use Rattle.std.proofs.Common.{Bool, List, [], ◌∷◌}
 use Rattle.reg_store.specs.Sent.{Sent}
 use Rattle.reg_tables.specs.declared.memory.Known.{Known}
-use Rattle.reg_tables.specs.Memory.{with_mark}
+use Rattle.reg_tables.specs.Private.Memory.{with_mark}
 
 -- what is known of a deposit, with the mark
 abbrev pub marked_as : Known → Bool → Known

@@ -28,7 +28,7 @@ use Rattle.reg_tables.proofs.Texts.{fill_meta, raise_format, insert_deposit, ins
 use Rattle.reg_tables.proofs.Texts.{insert_eight_lines, insert_eight_steps, select_deposit, select_lines, select_steps}
 use Rattle.reg_tables.proofs.Texts.{select_all_numbers, select_marks, select_meta}
 use Rattle.reg_tables.specs.Formats.{StartsWithMeta}
-use Rattle.reg_tables.specs.Meaning.{with_meta, with_deposits}
+use Rattle.reg_tables.specs.Private.Meaning.{with_meta, with_deposits}
 
 -- ---- the tables
 

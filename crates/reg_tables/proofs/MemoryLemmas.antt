@@ -16,17 +16,17 @@ use Rattle.reg_tables.specs.declared.memory.Coming.{Coming}
 use Rattle.reg_tables.specs.declared.memory.Known.{Known}
 use Rattle.reg_tables.specs.declared.memory.Memory.{Memory}
 use Rattle.reg_tables.specs.declared.memory.digests.Digests.{Digests}
-use Rattle.reg_tables.specs.Digests.{AddsNumber, AreBelow, AreDigested, PutsNumbers, numbers_under, own_digest}
-use Rattle.reg_tables.specs.Heads.{AreNew, IsNewOf, KnowsFile}
+use Rattle.reg_tables.specs.Private.Digests.{AddsNumber, AreBelow, AreDigested, PutsNumbers, numbers_under, own_digest}
+use Rattle.reg_tables.specs.Private.Heads.{AreNew, IsNewOf, KnowsFile}
 use Rattle.sqlite_catalog.proofs.ListFacts.{zip_push}
 use Rattle.reg_tables.proofs.MethodsLaws.{zip_at}
-use Rattle.reg_tables.specs.Memory.{Agrees, AreKnown, IsComing, IsKnown, with_mark}
+use Rattle.reg_tables.specs.Private.Memory.{Agrees, AreKnown, IsComing, IsKnown, with_mark}
 use Rattle.reg_tables.proofs.Known.{bare_of, marked_as, with_marks}
 use Rattle.reg_tables.specs.Quiet.{IsStill}
 use Rattle.reg_tables.proofs.QuietLaws.{clean_before}
 use Rattle.reg_tables.specs.Register.{deposits_in, marks_of}
 use Rattle.reg_tables.proofs.MarksLaws.{deposit_there, length_marked, marked_none, sents_push}
-use Rattle.reg_tables.specs.Marks.{long_sents}
+use Rattle.reg_tables.specs.Private.Marks.{long_sents}
 use Rattle.reg_tables.proofs.RepeatsLemmas.{below_more, below_same, digested_push, digested_same}
 
 -- ---- what is known of each deposit

@@ -28,7 +28,7 @@ use Rattle.reg_tables.proofs.ShowsLaws.{row_of_number}
 use Rattle.ags_links.proofs.Lemmas.{steps_ascend}
 use Rattle.ags_check.proofs.Lemmas.{one_clean_file}
 use Rattle.ags_links.specs.Walks.{StepGraph}
-use Rattle.reg_tables.specs.Methods.{HasSteps}
+use Rattle.reg_tables.specs.Private.Methods.{HasSteps}
 
 -- one row is that of one deposit
 pub same_deposit : (n : ℕ) (a b : Sent) (rows : List Row) → rows ≡ given_deposit n a ∷ []

@@ -33,7 +33,7 @@ use Rattle.reg_store.specs.Sent.{Sent}
 use Rattle.reg_store.specs.declared.keep.KeepError.{KeepError}
 use Rattle.reg_store.specs.declared.keep.KeepError.TheVariants as keep
 use Rattle.reg_store.specs.Keep.{is_store}
-use Rattle.reg_tables.specs.Commits.{Makes}
+use Rattle.reg_tables.specs.Private.Commits.{Makes}
 use Rattle.reg_tables.specs.declared.error.AdoptError.TheVariants.{Store}
 use Rattle.reg_tables.specs.Adoption.{adopt_error}
 use Rattle.reg_tables.specs.Quiet.{IsStill}
@@ -41,23 +41,23 @@ use Rattle.reg_tables.proofs.QuietLaws.{clean_before}
 use Rattle.reg_tables.specs.declared.schema.format.Format.TheVariants.{First, Second}
 use Rattle.reg_tables.specs.Creates.{MakesWithdrawals}
 use Rattle.reg_tables.proofs.InsertsLaws.{same_value, went}
-use Rattle.reg_tables.specs.Inside.{Inside, Ran}
+use Rattle.reg_tables.specs.Private.Inside.{Inside, Ran}
 use Rattle.reg_tables.proofs.MarksLaws.{none_withdrawn, sents_unmarked}
 use Rattle.reg_tables.proofs.MeaningLaws.{all_meta_read, format_raised, raise_is}
-use Rattle.reg_tables.specs.KeepLaws.{ChangesOf}
+use Rattle.reg_tables.specs.Private.KeepLaws.{ChangesOf}
 use Rattle.reg_tables.specs.declared.memory.Known.{Known}
 use Rattle.reg_tables.specs.declared.memory.Memory.{Memory}
 use Rattle.reg_tables.specs.declared.memory.digests.Digests.{Digests}
-use Rattle.reg_tables.specs.Digests.{AreBelow, AreDigested, HoldsDigests}
+use Rattle.reg_tables.specs.Private.Digests.{AreBelow, AreDigested, HoldsDigests}
 use Rattle.reg_tables.specs.Formats.{StartsWithMeta}
-use Rattle.reg_tables.specs.Heads.{AreNew, HoldsKnown}
-use Rattle.reg_tables.specs.Memory.{Agrees, Recalls}
+use Rattle.reg_tables.specs.Private.Heads.{AreNew, HoldsKnown}
+use Rattle.reg_tables.specs.Private.Memory.{Agrees, Recalls}
 use Rattle.reg_tables.specs.Migrates.{AddsWithdrawals, FindsFirst, HoldsFirst, IsMigrated, MigratedOf, Migrates, RecallsFirst}
 use Rattle.reg_tables.specs.Register.{deposit_rows, deposits_in, HoldsSent, IsRegister, IsRegisterOf, marks_of, meta_columns, sents_in, tables, text_in}
-use Rattle.reg_tables.specs.RegisterLaws.{sents_back}
+use Rattle.reg_tables.specs.Private.RegisterLaws.{sents_back}
 use Rattle.reg_tables.specs.Rows.{columns_3, deposit_table, first_column}
 use Rattle.reg_tables.specs.Tables.{meta, register_schema}
-use Rattle.reg_tables.specs.ReadBack.{read_back}
+use Rattle.reg_tables.specs.Private.ReadBack.{read_back}
 use Rattle.reg_tables.proofs.ReadBackLaws.{holds_same, unmarked_register}
 use Rattle.reg_tables.proofs.Texts.{raise_format, select_meta}
 use Rattle.reg_tables.proofs.AddsLemmas.{kept_either}

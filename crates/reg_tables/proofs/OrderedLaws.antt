@@ -20,8 +20,8 @@ use Rattle.reg_tables.specs.Rows.{columns_3, columns_5, deposit_table, first_col
 use Rattle.reg_tables.specs.Register.{deposit_rows, mark_rows, meta_columns}
 use Rattle.reg_tables.proofs.AnswersLaws.{all_pass, answers, reads_rows, shows_all}
 use Rattle.reg_tables.proofs.ReadsLaws.{AreFrom, rises}
-use Rattle.reg_tables.specs.Found.{AreMarksInOrder}
-use Rattle.reg_tables.specs.Adopts.{number_rows}
+use Rattle.reg_tables.specs.Private.Found.{AreMarksInOrder}
+use Rattle.reg_tables.specs.Private.Adopts.{number_rows}
 
 -- ---- the numbers
 

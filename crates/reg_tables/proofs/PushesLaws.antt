@@ -16,7 +16,7 @@ use Rattle.reg_store.specs.Sent.{Sent}
 use Rattle.reg_tables.specs.Rows.{given_deposit, has_number, rows_under, placed_row, placed_rows, line_rows, step_pair}
 use Rattle.reg_tables.specs.Rows.{step_rows, IsMore}
 use Rattle.reg_tables.specs.Register.{deposit_rows}
-use Rattle.reg_tables.specs.Pushes.{equal_at, apart_at}
+use Rattle.reg_tables.specs.Private.Pushes.{equal_at, apart_at}
 
 -- ---- the deposits
 

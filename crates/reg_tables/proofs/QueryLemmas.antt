@@ -15,8 +15,8 @@ use Rattle.sqlite.specs.State.{State, Shown, ShowsRows, IsRolledBack, IsUnchange
 use Rattle.sqlite.proofs.StateLemmas.{survives_weaker, survives_then}
 use Rattle.sqlite.proofs.Callers.{IsPlain, never_commits, unchanged_then}
 use Rattle.reg_tables.specs.Tables.{HasTables}
-use Rattle.reg_tables.specs.Meaning.{IsPlainText}
-use Rattle.reg_tables.specs.Found.{OnlyShows}
+use Rattle.reg_tables.specs.Private.Meaning.{IsPlainText}
+use Rattle.reg_tables.specs.Private.Found.{OnlyShows}
 use Rattle.reg_store.specs.declared.keep.KeepError.{KeepError}
 use Rattle.reg_store.specs.declared.keep.KeepError.TheVariants as keep
 use Rattle.reg_store.specs.Keep.{is_store}

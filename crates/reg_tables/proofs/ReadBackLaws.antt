@@ -16,8 +16,8 @@ use Rattle.reg_tables.specs.declared.schema.format.Format.{Format}
 use Rattle.reg_tables.specs.Tables.{format_number, schema_of}
 use Rattle.reg_tables.specs.declared.schema.format.Format.TheVariants.{First, Second}
 use Rattle.reg_tables.specs.Rows.{columns_3, columns_5, first_column, number_row, rows_under}
-use Rattle.reg_tables.specs.Inserts.{AddsFile, AddsMark}
-use Rattle.reg_tables.specs.Marks.{long_sents}
+use Rattle.reg_tables.specs.Private.Inserts.{AddsFile, AddsMark}
+use Rattle.reg_tables.specs.Private.Marks.{long_sents}
 use Rattle.reg_tables.proofs.MarksLaws.{mark_more, marks_push, none_withdrawn, sents_push, sents_unmarked}
 use Rattle.reg_tables.specs.Register.{deposit_rows, file_lines, file_steps, HoldsSent, IsRegister, IsRegisterOf}
 use Rattle.reg_tables.specs.Register.{mark_rows, marks_of, meta_columns}

@@ -16,14 +16,14 @@ use Rattle.reg_tables.specs.declared.memory.Known.{Known}
 use Rattle.reg_tables.specs.declared.memory.Memory.{Memory}
 use Rattle.reg_tables.specs.declared.memory.digests.Digests.{Digests}
 use Rattle.reg_tables.specs.Adoption.{Adopts, FindsMarks, HoldsMarks}
-use Rattle.reg_tables.specs.Digests.{AreBelow, AreDigested, HoldsDigests}
-use Rattle.reg_tables.specs.Heads.{AreNew, HoldsKnown}
-use Rattle.reg_tables.specs.Marks.{long_sents}
+use Rattle.reg_tables.specs.Private.Digests.{AreBelow, AreDigested, HoldsDigests}
+use Rattle.reg_tables.specs.Private.Heads.{AreNew, HoldsKnown}
+use Rattle.reg_tables.specs.Private.Marks.{long_sents}
 use Rattle.reg_tables.proofs.MarksLaws.{marks_paired, paired, sents_paired}
-use Rattle.reg_tables.specs.Memory.{Agrees, Recalls}
+use Rattle.reg_tables.specs.Private.Memory.{Agrees, Recalls}
 use Rattle.reg_tables.specs.Register.{HoldsSent, IsRegister, deposit_rows, deposits_in, mark_rows, mark_table, marks_of}
-use Rattle.reg_tables.specs.RegisterLaws.{rows-length}
-use Rattle.reg_tables.specs.ReadBack.{read_back}
+use Rattle.reg_tables.specs.Private.RegisterLaws.{rows-length}
+use Rattle.reg_tables.specs.Private.ReadBack.{read_back}
 use Rattle.reg_tables.specs.Rows.{deposit_table}
 use Rattle.reg_tables.proofs.ExamineLemmas.{one_format_in, register_meta}
 use Rattle.reg_tables.proofs.HeadsLemmas.{new_held}

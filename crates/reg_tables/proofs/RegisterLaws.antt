@@ -12,7 +12,7 @@ use Rattle.reg_store.specs.Sent.{Sent, number_of}
 use Rattle.reg_tables.specs.declared.schema.format.Format.TheVariants.{Second}
 use Rattle.reg_tables.specs.Rows.{given_deposit, deposit_table, IsMore, columns_3, rows_under, line_table, step_table}
 use Rattle.reg_tables.specs.Rows.{placed_rows, line_rows, step_pair, step_rows}
-use Rattle.reg_tables.specs.Inserts.{AddsFile}
+use Rattle.reg_tables.specs.Private.Inserts.{AddsFile}
 use Rattle.reg_store.specs.Fit.{IsFileOf, IsNamed, kept_rows}
 use Rattle.reg_store.specs.ApartLaws.{apart_push}
 use Rattle.reg_tables.specs.Register.{meta_columns, file_lines, file_steps, HoldsSent}

@@ -28,8 +28,8 @@ use Rattle.reg_store.specs.Apart.{AreApart}
 use Rattle.reg_store.specs.ApartLaws.{none_at, parts_of}
 use Rattle.reg_store.specs.Sent.{Sent, is_repeat, number_of}
 use Rattle.reg_store.specs.Deposit.{sents}
-use Rattle.reg_tables.specs.Digests.{AddsNumber, AreBelow, AreDigested, HasEqual, HasNoEqual, HoldsDigests, IsRowOf, digest_of, is_among, numbers_under, own_digest}
-use Rattle.reg_tables.specs.Marks.{long_sents}
+use Rattle.reg_tables.specs.Private.Digests.{AddsNumber, AreBelow, AreDigested, HasEqual, HasNoEqual, HoldsDigests, IsRowOf, digest_of, is_among, numbers_under, own_digest}
+use Rattle.reg_tables.specs.Private.Marks.{long_sents}
 use Rattle.reg_tables.proofs.MethodsLaws.{same_deposit, slice_get_in}
 use Rattle.reg_tables.specs.Register.{deposit_rows, deposits_in, KeepsRegister}
 use Rattle.reg_tables.specs.Rows.{deposit_table}

@@ -8,8 +8,8 @@ use Rattle.sqlite_keyed.proofs.ListLemmas.{IsPermutation-filter}
 use Rattle.reg_store.specs.Sent.{Sent}
 use Rattle.reg_tables.specs.Rows.{given_deposit, has_number}
 use Rattle.reg_tables.specs.Register.{deposit_rows}
-use Rattle.reg_tables.specs.RegisterLaws.{none_before}
-use Rattle.reg_tables.specs.Pushes.{equal_at, apart_at}
+use Rattle.reg_tables.specs.Private.RegisterLaws.{none_before}
+use Rattle.reg_tables.specs.Private.Pushes.{equal_at, apart_at}
 
 -- among the rows of a list one has the number of a deposit
 pub row_at : (m k : ℕ) (list : List Sent) (d : Sent) → slice_get list k ≡ Some d

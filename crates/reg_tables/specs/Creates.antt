@@ -8,7 +8,7 @@ use Rattle.sqlite.specs.Effect.{Database, IsDatabase}
 use Rattle.sqlite.specs.State.{State, HasCleanDisk, Survives}
 use Rattle.ags_dict.specs.Entries.{Entries}
 use Rattle.reg_tables.specs.Tables.{no_schema, first_schema, register_schema}
-use Rattle.reg_tables.specs.Meaning.{with_deposits}
+use Rattle.reg_tables.specs.Private.Meaning.{with_deposits}
 use Rattle.reg_tables.specs.Rows.{columns_3}
 use Rattle.reg_tables.specs.Register.{deposits_in, meta_columns, text_in, IsRegister, tables}
 

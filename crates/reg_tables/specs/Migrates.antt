@@ -12,7 +12,7 @@ use Rattle.reg_tables.specs.declared.error.AdoptError.TheVariants.{Store}
 use Rattle.reg_tables.specs.declared.schema.format.Format.TheVariants.{First}
 use Rattle.reg_tables.specs.declared.memory.Memory.{Memory}
 use Rattle.reg_tables.specs.Tables.{register_schema}
-use Rattle.reg_tables.specs.Memory.{Agrees}
+use Rattle.reg_tables.specs.Private.Memory.{Agrees}
 use Rattle.reg_tables.specs.Opened.{FindsTables}
 use Rattle.reg_tables.specs.Register.{HoldsSent, IsRegister, IsRegisterOf, deposits_in, sents_in, tables, text_in}
 

@@ -11,11 +11,11 @@ use Rattle.ags_dict.specs.Reading.{IsDictionary}
 use Rattle.ags_check.specs.Findings.{CheckedFile}
 use Rattle.reg_store.specs.Sent.{Sent}
 use Rattle.reg_store.specs.Fit.{IsFileOf, IsNamed, kept_rows}
-use Rattle.reg_tables.specs.Digests.{IsFirst}
+use Rattle.reg_tables.specs.Private.Digests.{IsFirst}
 use Rattle.reg_tables.specs.Rows.{deposit_table, given_deposit, columns_3, first_column, has_number}
 use Rattle.reg_tables.specs.Register.{deposit_rows, meta_columns}
-use Rattle.reg_tables.specs.Adopts.{number_rows}
-use Rattle.reg_tables.specs.Methods.{HoldsLines, HoldsSteps}
+use Rattle.reg_tables.specs.Private.Adopts.{number_rows}
+use Rattle.reg_tables.specs.Private.Methods.{HoldsLines, HoldsSteps}
 
 -- A test finds the fact out: it is true only where the fact holds, and false only where it does not.
 pub record Tests (is : Bool) (Fact : Type 0) : Type 0 where

@@ -2,10 +2,10 @@
 
 ghost use Rattle.std.specs.Prelude.{◌≡◌, length, false};
 ghost use Rattle.reg_store.specs.Keep.{fails, is_store as store_error};
-ghost use Rattle.reg_tables.specs.KeepLaws.{few_at, fit_at, remains_at, settled_at, stays_at, unbroken_at};
+ghost use Rattle.reg_tables.specs.Private.KeepLaws.{few_at, fit_at, remains_at, settled_at, stays_at, unbroken_at};
 ghost use Rattle.sqlite.specs.State.{HasCleanDisk};
 ghost use Rattle.sqlite.specs.Held.{state};
-ghost use Rattle.reg_tables.specs.Memory.{Agrees};
+ghost use Rattle.reg_tables.specs.Private.Memory.{Agrees};
 ghost use Rattle.reg_tables.specs.Register.{deposits_in, KeepsIfClean, KeepsRegister, LeavesBroken, LeavesList, text_in};
 
 use crate::memory::digests::digest_of;

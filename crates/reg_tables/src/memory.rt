@@ -7,8 +7,8 @@ ghost use Rattle.reg_store.specs.Keep.{OfDeposit, fails};
 ghost use Rattle.reg_store.specs.Reading.{HasProjectRows, IsHeadAt};
 ghost use Rattle.reg_store.specs.Deposit.{Deposit, marked, sents, unmarked};
 ghost use Rattle.reg_store.specs.Sent.{Sent, numbers_from};
-ghost use Rattle.reg_tables.specs.Digests.{AreBelow, AreDigested, numbers_under};
-ghost use Rattle.reg_tables.specs.Heads.{AreNew, KnowsFile};
+ghost use Rattle.reg_tables.specs.Private.Digests.{AreBelow, AreDigested, numbers_under};
+ghost use Rattle.reg_tables.specs.Private.Heads.{AreNew, KnowsFile};
 ghost use Rattle.reg_tables.specs.Register.{marks_of};
 ghost use Rattle.reg_tables.specs.Rows.{deposit_from};
 
@@ -36,7 +36,7 @@ pub(crate) struct Memory {
 }
 
 impl Memory {
-    ghost use Rattle.reg_tables.specs.Memory.{Agrees, HasRoom, IsComing};
+    ghost use Rattle.reg_tables.specs.Private.Memory.{Agrees, HasRoom, IsComing};
 
     /// No deposit is known, of a register whose dictionary has so many bytes.
     pub(crate) fn new(alloc: Global, dictionary_bytes: usize) -> Memory

@@ -3,8 +3,8 @@
 ghost use Rattle.std.specs.Prelude.{◌≢◌, IfOk, IfErr};
 ghost use Rattle.sqlite.specs.Held.{state};
 ghost use Rattle.reg_tables.specs.Quiet.{IsIdle, IsStill, FindsThat};
-ghost use Rattle.reg_tables.specs.Found.{FindsAll, rows_numbered};
-ghost use Rattle.reg_tables.specs.Digests.{IsRowOf};
+ghost use Rattle.reg_tables.specs.Private.Found.{FindsAll, rows_numbered};
+ghost use Rattle.reg_tables.specs.Private.Digests.{IsRowOf};
 ghost use Rattle.reg_store.specs.Keep.{fails, sent_of};
 ghost use Rattle.reg_store.specs.Fit.{IsNamed};
 

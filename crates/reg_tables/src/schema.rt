@@ -2,8 +2,8 @@
 
 ghost use Rattle.std.specs.Prelude.{◌≡◌, [], ◌∷◌, ◌↔◌, map, codes, IsTrue};
 ghost use Rattle.reg_tables.specs.Tables.{meta, no_schema, schema_of};
-ghost use Rattle.reg_tables.specs.Schemas.{HasKey, column_of, index_of, reference_at, references_of, schema_with};
-ghost use Rattle.reg_tables.specs.Schemas.{table_of};
+ghost use Rattle.reg_tables.specs.Private.Schemas.{HasKey, column_of, index_of, reference_at, references_of, schema_with};
+ghost use Rattle.reg_tables.specs.Private.Schemas.{table_of};
 
 pub(crate) mod expected;
 pub(crate) mod format;

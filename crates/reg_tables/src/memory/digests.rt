@@ -1,7 +1,7 @@
 //! For each digest, the numbers of the deposits that have it.
 
 ghost use Rattle.std.specs.Prelude.{◌≡◌, ◌∷◌, ◌++◌, [], ℕ, List, IfOk, OnOk, IsSome};
-ghost use Rattle.reg_tables.specs.Digests.{AddsNumber, digest_of as digest, found_at, numbers_under, PutsNumbers};
+ghost use Rattle.reg_tables.specs.Private.Digests.{AddsNumber, digest_of as digest, found_at, numbers_under, PutsNumbers};
 
 use reg_policy::Name;
 use sha2::{Digest, Sha256};

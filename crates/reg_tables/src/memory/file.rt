@@ -2,7 +2,7 @@
 
 ghost use Rattle.std.specs.Prelude.{◌≡◌, IfOk};
 ghost use Rattle.reg_store.specs.Fit.{kept_rows};
-ghost use Rattle.reg_tables.specs.Heads.{IsKnownOf};
+ghost use Rattle.reg_tables.specs.Private.Heads.{IsKnownOf};
 
 use crate::memory::room::Size;
 use ags_check::Checked;

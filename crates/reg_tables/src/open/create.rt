@@ -11,7 +11,7 @@ ghost use Rattle.ags_dict.specs.Reading.{IsDictionary, ReadsDictionary};
 ghost use Rattle.reg_tables.specs.Tables.{no_schema};
 ghost use Rattle.reg_tables.specs.Creates.{HasNoDeposit, IsEmptyRegister, ShowsEmptyRegister, SurvivesMaking};
 ghost use Rattle.reg_tables.specs.Making.{AreDictionary, RefusesBytes, SurvivesRefusal};
-ghost use Rattle.reg_tables.specs.Commits.{CommitsAll};
+ghost use Rattle.reg_tables.specs.Private.Commits.{CommitsAll};
 ghost use Rattle.reg_tables.specs.Quiet.{StaysIfClean, StaysIfOpen};
 ghost use Rattle.reg_tables.specs.Register.{deposits_in};
 ghost use Rattle.reg_tables.specs.Opened.{FindsEmpty, FindsNotEmpty, ShowsFiles};

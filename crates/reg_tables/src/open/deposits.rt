@@ -8,14 +8,14 @@ ghost use Rattle.ags_links.specs.Steps.{IsBefore};
 ghost use Rattle.ags_check.specs.Findings.{IsClean};
 ghost use Rattle.reg_store.specs.Keep.{fails, sent_of};
 ghost use Rattle.reg_tables.specs.Quiet.{IsIdle, IsStill, FindsThat};
-ghost use Rattle.reg_tables.specs.Found.{FindsOneIf, FindsOut, OnYes};
+ghost use Rattle.reg_tables.specs.Private.Found.{FindsOneIf, FindsOut, OnYes};
 ghost use Rattle.reg_tables.specs.Rows.{given_deposit};
-ghost use Rattle.reg_tables.specs.Heads.{AddsKnown, HoldsKnown, IsDigestedAt, IsDigestedFrom, IsKnownOf, KnowsFile};
-ghost use Rattle.reg_tables.specs.Digests.{AreBelow, HoldsDigests, IsNew, numbers_under, own_digest};
+ghost use Rattle.reg_tables.specs.Private.Heads.{AddsKnown, HoldsKnown, IsDigestedAt, IsDigestedFrom, IsKnownOf, KnowsFile};
+ghost use Rattle.reg_tables.specs.Private.Digests.{AreBelow, HoldsDigests, IsNew, numbers_under, own_digest};
 ghost use Rattle.reg_store.specs.Fit.{IsNamed, kept_rows};
 ghost use Rattle.reg_store.specs.Sent.{Sent};
 ghost use Rattle.reg_tables.specs.Whole.{AreWhole, HoldsBody, IsWhole};
-ghost use Rattle.reg_tables.specs.Methods.{HoldsLines, HoldsSteps};
+ghost use Rattle.reg_tables.specs.Private.Methods.{HoldsLines, HoldsSteps};
 
 use crate::memory::Known;
 use crate::memory::digests::{Digests, digest_of};

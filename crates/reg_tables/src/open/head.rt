@@ -2,7 +2,7 @@
 
 ghost use Rattle.std.specs.Prelude.{◌≡◌};
 ghost use Rattle.reg_store.specs.Keep.{sent_of};
-ghost use Rattle.reg_tables.specs.Heads.{head_of};
+ghost use Rattle.reg_tables.specs.Private.Heads.{head_of};
 
 use crate::memory::Known;
 use crate::memory::file::KnownFile;

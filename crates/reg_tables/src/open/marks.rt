@@ -6,7 +6,7 @@ ghost use Rattle.sqlite.specs.State.{HasCleanDisk};
 ghost use Rattle.sqlite.specs.Held.{state};
 ghost use Rattle.reg_store.specs.Keep.{fails};
 ghost use Rattle.reg_tables.specs.Adoption.{FindsMarks, gives_up};
-ghost use Rattle.reg_tables.specs.Found.{AreMarksInOrder};
+ghost use Rattle.reg_tables.specs.Private.Found.{AreMarksInOrder};
 ghost use Rattle.reg_tables.specs.Quiet.{FindsThat, IsIdle, IsStill};
 ghost use Rattle.reg_tables.specs.Register.{mark_rows};
 ghost use Rattle.reg_tables.specs.Rows.{number_row};

@@ -11,7 +11,7 @@ ghost use Rattle.reg_tables.specs.Tables.{format_number};
 ghost use Rattle.sqlite.specs.State.{HasCleanDisk};
 ghost use Rattle.sqlite.specs.Held.{state};
 ghost use Rattle.reg_tables.specs.Quiet.{IsIdle, IsStill, FindsThat};
-ghost use Rattle.reg_tables.specs.Found.{AreMetaByName, FindsAll};
+ghost use Rattle.reg_tables.specs.Private.Found.{AreMetaByName, FindsAll};
 ghost use Rattle.reg_store.specs.Keep.{fails};
 ghost use Rattle.reg_tables.specs.Rows.{columns_3};
 

@@ -3,7 +3,7 @@
 ghost use Rattle.std.specs.Prelude.{◌≡◌};
 ghost use Rattle.sqlite.specs.State.{HasCleanDisk, Survives};
 ghost use Rattle.reg_tables.specs.Tables.{first_schema, no_schema};
-ghost use Rattle.reg_tables.specs.Inside.{ChangesInside, CommitsNothing, HasSchema, HasTransaction, state_in};
+ghost use Rattle.reg_tables.specs.Private.Inside.{ChangesInside, CommitsNothing, HasSchema, HasTransaction, state_in};
 ghost use Rattle.reg_tables.specs.Creates.{HasFirst, HasFour, IsNewRegister, MakesWithdrawals};
 
 use crate::write::change::Change;

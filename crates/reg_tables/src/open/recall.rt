@@ -4,7 +4,7 @@ ghost use Rattle.std.specs.Prelude.{◌≡◌, false, Err, IsTrue, IfErr};
 ghost use Rattle.sqlite.specs.State.{HasCleanDisk};
 ghost use Rattle.sqlite.specs.Held.{state};
 ghost use Rattle.reg_tables.specs.Adoption.{Adopts, gives_up};
-ghost use Rattle.reg_tables.specs.Memory.{Recalls};
+ghost use Rattle.reg_tables.specs.Private.Memory.{Recalls};
 ghost use Rattle.reg_tables.specs.Quiet.{FindsThat, IsIdle, IsStill};
 ghost use Rattle.reg_tables.specs.Tables.{register_schema, first_schema};
 ghost use Rattle.reg_tables.specs.declared.schema.format.Format.TheVariants.{Second, First};

@@ -3,8 +3,8 @@
 ghost use Rattle.std.specs.Prelude.{◌≡◌, ℕ, List, map, IsTrue};
 ghost use Rattle.sqlite.specs.State.{HasCleanDisk, Survives};
 ghost use Rattle.reg_tables.specs.Formats.{StartsWithMeta};
-ghost use Rattle.reg_tables.specs.Found.{FindsAll};
-ghost use Rattle.reg_tables.specs.Inside.{ChangesInside, CommitsNothing, HasSchema, HasTransaction, state_in};
+ghost use Rattle.reg_tables.specs.Private.Found.{FindsAll};
+ghost use Rattle.reg_tables.specs.Private.Inside.{ChangesInside, CommitsNothing, HasSchema, HasTransaction, state_in};
 ghost use Rattle.reg_tables.specs.Migrates.{AddsWithdrawals, Migrates};
 ghost use Rattle.reg_tables.specs.Register.{meta_columns};
 ghost use Rattle.reg_tables.specs.Rows.{columns_3};

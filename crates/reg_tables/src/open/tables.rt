@@ -7,7 +7,7 @@ ghost use Rattle.reg_tables.specs.Tables.{schema_of};
 ghost use Rattle.reg_tables.specs.Rows.{columns_3};
 ghost use Rattle.reg_tables.specs.Formats.{StartsWithMeta};
 ghost use Rattle.reg_tables.specs.Quiet.{IsIdle, IsSettled, StaysIfClean, StaysIfOpen};
-ghost use Rattle.reg_tables.specs.Found.{FindsAll, StaysUnless};
+ghost use Rattle.reg_tables.specs.Private.Found.{FindsAll, StaysUnless};
 ghost use Rattle.reg_tables.specs.Adoption.{Adopts, is_store_failure};
 
 use crate::error::AdoptError;

@@ -4,8 +4,8 @@ ghost use Rattle.std.specs.Prelude.{◌≡◌, ◌≢◌, true, IfOk, IfErr, IfS
 ghost use Rattle.sqlite.specs.Held.{state};
 ghost use Rattle.reg_store.specs.Keep.{fails};
 ghost use Rattle.reg_tables.specs.Quiet.{IsIdle, IsStill};
-ghost use Rattle.reg_tables.specs.Found.{FindsEqual, FindsIfEqual, FindsNoEqual};
-ghost use Rattle.reg_tables.specs.Digests.{is_among};
+ghost use Rattle.reg_tables.specs.Private.Found.{FindsEqual, FindsIfEqual, FindsNoEqual};
+ghost use Rattle.reg_tables.specs.Private.Digests.{is_among};
 
 use crate::read::read_deposit;
 use reg_policy::Name;

@@ -5,9 +5,9 @@ ghost use Rattle.sqlite.specs.Order.{Row as Values};
 ghost use Rattle.sqlite.specs.Values.{bound};
 ghost use Rattle.sqlite.specs.State.{HasCleanDisk, Survives};
 ghost use Rattle.sqlite.specs.Held.{state};
-ghost use Rattle.reg_tables.specs.Meaning.{IsPlainText};
+ghost use Rattle.reg_tables.specs.Private.Meaning.{IsPlainText};
 ghost use Rattle.reg_tables.specs.Quiet.{IsIdle, IsStill, StaysIfOpen};
-ghost use Rattle.reg_tables.specs.Found.{TakesEachShown, TakesShown};
+ghost use Rattle.reg_tables.specs.Private.Found.{TakesEachShown, TakesShown};
 ghost use Rattle.reg_store.specs.Keep.{fails};
 
 use crate::read::queries::refusal;

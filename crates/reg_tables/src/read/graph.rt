@@ -3,10 +3,10 @@
 ghost use Rattle.std.specs.Prelude.{◌≡◌, ◌≢◌, IfErr, IfOk};
 ghost use Rattle.sqlite.specs.Held.{state};
 ghost use Rattle.reg_store.specs.Keep.{fails};
-ghost use Rattle.reg_tables.specs.Methods.{HasSteps, HoldsSteps};
+ghost use Rattle.reg_tables.specs.Private.Methods.{HasSteps, HoldsSteps};
 ghost use Rattle.reg_tables.specs.Quiet.{FindsThat, IsIdle, IsStill};
 ghost use Rattle.reg_tables.specs.Rows.{step_table};
-ghost use Rattle.reg_tables.specs.Found.{OfSteps};
+ghost use Rattle.reg_tables.specs.Private.Found.{OfSteps};
 
 use crate::read::gather::take_shown;
 use crate::read::rows::KeptSteps;

@@ -5,7 +5,7 @@ ghost use Rattle.reg_store.specs.Reading.{HasKind};
 ghost use Rattle.sqlite.specs.Held.{state};
 ghost use Rattle.reg_tables.specs.Quiet.{IsIdle, IsStill, FindsThat};
 ghost use Rattle.reg_store.specs.Keep.{fails};
-ghost use Rattle.reg_tables.specs.Methods.{AreRowsAt, HoldsLines};
+ghost use Rattle.reg_tables.specs.Private.Methods.{AreRowsAt, HoldsLines};
 
 use crate::read::gather::take_shown;
 use crate::read::rows::KeptLines;

@@ -5,7 +5,7 @@ ghost use Rattle.sqlite.specs.Values.{bound};
 ghost use Rattle.sqlite.specs.State.{HasCleanDisk, Survives, IsUnchanged};
 ghost use Rattle.sqlite.specs.Held.{state};
 ghost use Rattle.reg_tables.specs.Quiet.{IsIdle, IsSettled, IsStill, StaysIfOpen};
-ghost use Rattle.reg_tables.specs.Found.{FindsShown, OnlyShows};
+ghost use Rattle.reg_tables.specs.Private.Found.{FindsShown, OnlyShows};
 ghost use Rattle.reg_store.specs.Keep.{fails, is_store};
 
 use reg_store::KeepError;

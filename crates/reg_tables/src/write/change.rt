@@ -6,10 +6,10 @@ ghost use Rattle.sqlite.specs.Effect.{Database};
 ghost use Rattle.sqlite.specs.State.{HasCleanDisk, Survives};
 ghost use Rattle.sqlite.specs.Held.{state};
 ghost use Rattle.reg_store.specs.Keep.{fails};
-ghost use Rattle.reg_tables.specs.Commits.{MakesIfOk, CommitsAll, Makes, UndoesIfOpen, UndoesUnlessFailed};
-ghost use Rattle.reg_tables.specs.Commits.{WasOpenIfOpen};
-ghost use Rattle.reg_tables.specs.Inside.{ChangesInside, CommitsNothing, HasSchema, HasTransaction, state_in};
-ghost use Rattle.reg_tables.specs.KeepLaws.{ChangesOf};
+ghost use Rattle.reg_tables.specs.Private.Commits.{MakesIfOk, CommitsAll, Makes, UndoesIfOpen, UndoesUnlessFailed};
+ghost use Rattle.reg_tables.specs.Private.Commits.{WasOpenIfOpen};
+ghost use Rattle.reg_tables.specs.Private.Inside.{ChangesInside, CommitsNothing, HasSchema, HasTransaction, state_in};
+ghost use Rattle.reg_tables.specs.Private.KeepLaws.{ChangesOf};
 ghost use Rattle.reg_tables.specs.Quiet.{IsSettled, StaysIfOpen};
 
 use crate::read::queries::refusal;

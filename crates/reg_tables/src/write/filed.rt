@@ -3,7 +3,7 @@
 ghost use Rattle.std.specs.Prelude.{◌≡◌, ◌<◌, ◌^◌, length};
 ghost use Rattle.sqlite.specs.State.{Survives};
 ghost use Rattle.reg_tables.specs.Tables.{register_schema};
-ghost use Rattle.reg_tables.specs.Inside.{ChangesInside, CommitsNothing, HasSchema, HasTransaction, state_in};
+ghost use Rattle.reg_tables.specs.Private.Inside.{ChangesInside, CommitsNothing, HasSchema, HasTransaction, state_in};
 
 use crate::write::change::Change;
 use crate::write::lines::insert_lines;
@@ -26,7 +26,7 @@ pub(crate) struct Filed<'a> {
 }
 
 impl Change for Filed<'_> {
-    ghost use Rattle.reg_tables.specs.Filed.{AddsFiled};
+    ghost use Rattle.reg_tables.specs.Private.Filed.{AddsFiled};
 
     ghost from = { λ _. register_schema };
 
@@ -41,7 +41,7 @@ impl Change for Filed<'_> {
 }
 
 impl Filed<'_> {
-    ghost use Rattle.reg_tables.specs.Filed.{AddsRow};
+    ghost use Rattle.reg_tables.specs.Private.Filed.{AddsRow};
 
     /// Adds the row of the deposit. Nothing is committed.
     fn insert_row<S: Alter>(&self, tx: &mut Transaction<'_, S>) -> Result<(), Error>

@@ -8,8 +8,8 @@ ghost use Rattle.reg_tables.specs.Tables.{register_schema};
 ghost use Rattle.sqlite.specs.Values.{bound};
 ghost use Rattle.reg_store.specs.Fit.{kept_rows as rows_in};
 ghost use Rattle.reg_tables.specs.Rows.{joined, line_row, line_rows};
-ghost use Rattle.reg_tables.specs.Inserts.{AddsLines};
-ghost use Rattle.reg_tables.specs.Inside.{ChangesInside, CommitsNothing, HasSchema, HasTransaction, state_in};
+ghost use Rattle.reg_tables.specs.Private.Inserts.{AddsLines};
+ghost use Rattle.reg_tables.specs.Private.Inside.{ChangesInside, CommitsNothing, HasSchema, HasTransaction, state_in};
 
 use crate::write::statement::run;
 use ags_check::Checked;

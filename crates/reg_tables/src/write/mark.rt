@@ -1,6 +1,6 @@
 //! The mark of a deposit that is withdrawn.
 
-ghost use Rattle.reg_tables.specs.Inserts.{AddsMark};
+ghost use Rattle.reg_tables.specs.Private.Inserts.{AddsMark};
 ghost use Rattle.reg_tables.specs.Tables.{register_schema};
 
 use crate::write::change::Change;

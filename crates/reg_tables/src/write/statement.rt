@@ -3,7 +3,7 @@
 ghost use Rattle.std.specs.Prelude.{◌≡◌};
 ghost use Rattle.sqlite.specs.Values.{bound};
 ghost use Rattle.sqlite.specs.State.{Survives};
-ghost use Rattle.reg_tables.specs.Inside.{CommitsNothing, HasTransaction, RunsInside, state_in};
+ghost use Rattle.reg_tables.specs.Private.Inside.{CommitsNothing, HasTransaction, RunsInside, state_in};
 
 use sqlite::types::ValueRef;
 use sqlite::{Alter, Error, Transaction};

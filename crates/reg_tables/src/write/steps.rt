@@ -7,8 +7,8 @@ ghost use Rattle.sqlite.specs.State.{HasCleanDisk, Survives};
 ghost use Rattle.reg_tables.specs.Tables.{register_schema};
 ghost use Rattle.sqlite.specs.Values.{bound};
 ghost use Rattle.reg_tables.specs.Rows.{joined, step_row, step_rows};
-ghost use Rattle.reg_tables.specs.Inserts.{AddsSteps};
-ghost use Rattle.reg_tables.specs.Inside.{ChangesInside, CommitsNothing, HasSchema, HasTransaction, state_in};
+ghost use Rattle.reg_tables.specs.Private.Inserts.{AddsSteps};
+ghost use Rattle.reg_tables.specs.Private.Inside.{ChangesInside, CommitsNothing, HasSchema, HasTransaction, state_in};
 
 use crate::write::lines::TOGETHER;
 use crate::write::statement::run;

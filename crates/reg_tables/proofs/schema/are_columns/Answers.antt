@@ -1,7 +1,7 @@
 use Rattle.std.proofs.Common.{rules, tests, ◌∙◌, sym}
 use Rattle.std.proofs.lemmas.List.{length-map}
 use Rattle.std.proofs.lemmas.Iterator.{YieldsList-from_slice, YieldsList-from_zip, same_from_all}
-use Rattle.reg_tables.specs.Schemas.{column_of}
+use Rattle.reg_tables.specs.Private.Schemas.{column_of}
 use Rattle.reg_tables.proofs.SchemaLemmas.{mapped}
 use Rattle.reg_tables.proofs.schema.are_columns.Goals as goal
 

@@ -1,7 +1,7 @@
 use Rattle.std.proofs.Common.{List, length, refl, subst, sym, ap}
 use Rattle.sqlite.specs.Held.{state}
 use Rattle.reg_store.specs.Deposit.{Deposit}
-use Rattle.reg_tables.specs.Memory.{Agrees}
+use Rattle.reg_tables.specs.Private.Memory.{Agrees}
 use Rattle.reg_tables.specs.Register.{KeepsRegister}
 use Rattle.reg_tables.proofs.CreateLemmas.{new_list, new_keeps}
 use Rattle.reg_tables.proofs.keep.SqlKeep.make.Goals as goal

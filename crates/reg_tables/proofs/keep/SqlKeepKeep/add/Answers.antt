@@ -9,13 +9,13 @@ use Rattle.reg_store.specs.Keep.{is_store}
 use Rattle.reg_store.specs.Fit.{IsFileOf, kept_rows}
 use Rattle.reg_tables.proofs.QuietLaws.{clean_before}
 use Rattle.reg_tables.specs.Rows.{deposit_from}
-use Rattle.reg_tables.specs.Inserts.{AddsFile}
-use Rattle.reg_tables.specs.Heads.{IsKnownOf, KnowsFile}
+use Rattle.reg_tables.specs.Private.Inserts.{AddsFile}
+use Rattle.reg_tables.specs.Private.Heads.{IsKnownOf, KnowsFile}
 use Rattle.reg_tables.proofs.ExamineLemmas.{known_of}
-use Rattle.reg_tables.specs.Memory.{Agrees, IsComing}
+use Rattle.reg_tables.specs.Private.Memory.{Agrees, IsComing}
 use Rattle.reg_tables.specs.Register.{KeepsRegister, deposits_in, text_in}
 use Rattle.reg_tables.proofs.RegisterLaws.{IsReady}
-use Rattle.reg_tables.specs.KeepLaws.{ChangesOf, PutsOf}
+use Rattle.reg_tables.specs.Private.KeepLaws.{ChangesOf, PutsOf}
 use Rattle.reg_tables.proofs.KeepLaws.{HoldsNext, BecomesNext, counted_at, crash_at, idle_at, keeps_same, next_at, put_next}
 use Rattle.reg_tables.proofs.KeepLaws.{schema_at, settled_of, text_committed, whole_next}
 use Rattle.reg_tables.proofs.AddsLemmas.{opened_at}

@@ -3,7 +3,7 @@ use Rattle.sqlite.specs.Held.{state}
 use Rattle.reg_store.specs.declared.keep.KeepError.{KeepError}
 use Rattle.reg_store.specs.declared.keep.Kept.{Kept}
 use Rattle.reg_store.specs.Keep.{fails, sent_of}
-use Rattle.reg_tables.specs.Digests.{IsRowOf}
+use Rattle.reg_tables.specs.Private.Digests.{IsRowOf}
 use Rattle.reg_tables.specs.Quiet.{IsStill}
 use Rattle.reg_tables.proofs.QuietLaws.{clean_before}
 use Rattle.reg_tables.specs.Register.{deposits_in}

@@ -4,11 +4,11 @@ use Rattle.sqlite.specs.State.{HasCleanDisk}
 use Rattle.sqlite.specs.Held.{state}
 use Rattle.reg_store.specs.Deposit.{Deposit, marked}
 use Rattle.reg_store.specs.Keep.{is_store}
-use Rattle.reg_tables.specs.Inserts.{AddsMark}
+use Rattle.reg_tables.specs.Private.Inserts.{AddsMark}
 use Rattle.reg_tables.proofs.KeepLaws.{HoldsNext, BecomesNext, counted_at, crash_at, keeps_same, mark_next, next_at}
 use Rattle.reg_tables.proofs.KeepLaws.{schema_at, settled_of, text_committed, whole_next}
 use Rattle.reg_tables.proofs.MarksLaws.{length_marked}
-use Rattle.reg_tables.specs.Memory.{Agrees}
+use Rattle.reg_tables.specs.Private.Memory.{Agrees}
 use Rattle.reg_tables.proofs.QuietLaws.{clean_before}
 use Rattle.reg_tables.specs.Register.{KeepsRegister, deposits_in, text_in}
 use Rattle.reg_tables.proofs.keep.SqlKeepKeep.withdraw.Given.{Over}

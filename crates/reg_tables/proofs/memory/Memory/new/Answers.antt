@@ -1,5 +1,5 @@
 use Rattle.std.proofs.Common.{◌≡◌, [], refl, sym, subst, rules}
-use Rattle.reg_tables.specs.Memory.{AreKnown}
+use Rattle.reg_tables.specs.Private.Memory.{AreKnown}
 use Rattle.reg_tables.proofs.RepeatsLemmas.{none_below}
 use Rattle.reg_tables.proofs.memory.Memory.new.Goals as goal
 

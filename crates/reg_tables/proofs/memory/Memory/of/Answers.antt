@@ -2,7 +2,7 @@ use Rattle.std.proofs.Common.{◌≡◌, ◌+◌, ◌<◌, ◌≤◌, suc, List,
 use Rattle.std.proofs.Math.ListN.{set}
 use Rattle.std.proofs.lemmas.List.{length-map, take_all}
 use Rattle.std.proofs.lemmas.Option.{slice_get-get_or, slice_get_read}
-use Rattle.reg_tables.specs.Memory.{AreKnown}
+use Rattle.reg_tables.specs.Private.Memory.{AreKnown}
 use Rattle.reg_tables.specs.Register.{marks_of}
 use Rattle.reg_tables.proofs.Known.{marked_as, with_marks}
 use Rattle.reg_tables.proofs.MemoryLemmas.{known_marked, marks_long, marks_more}

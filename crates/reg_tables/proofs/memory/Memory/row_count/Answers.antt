@@ -2,7 +2,7 @@ use Rattle.std.proofs.Common.{◌-◌, ◌≤◌, length, rules, arith, subst, s
 use Rattle.reg_store.specs.Deposit.{sents}
 use Rattle.reg_store.specs.Fit.{IsFileOf}
 use Rattle.reg_store.specs.Sent.{Sent}
-use Rattle.reg_tables.specs.Marks.{long_sents}
+use Rattle.reg_tables.specs.Private.Marks.{long_sents}
 use Rattle.reg_tables.proofs.MemoryLemmas.{known_sent}
 use Rattle.std.proofs.lemmas.Option.{slice_get_within}
 use Rattle.reg_tables.proofs.memory.Memory.row_count.Goals as goal

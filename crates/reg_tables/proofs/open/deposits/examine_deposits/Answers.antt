@@ -2,9 +2,9 @@ use Rattle.std.proofs.Common.{rules, arith, ◌≡◌, ◌+◌, ◌∙◌, true,
 use Rattle.std.proofs.lemmas.List.{length_push}
 use Rattle.sqlite.specs.Effect.{Database}
 use Rattle.sqlite.specs.Held.{state}
-use Rattle.reg_tables.specs.Digests.{AreBelow, HoldsDigests}
+use Rattle.reg_tables.specs.Private.Digests.{AreBelow, HoldsDigests}
 use Rattle.reg_tables.specs.declared.memory.Known.{Known}
-use Rattle.reg_tables.specs.Heads.{HoldsKnown, IsDigestedAt}
+use Rattle.reg_tables.specs.Private.Heads.{HoldsKnown, IsDigestedAt}
 use Rattle.reg_tables.proofs.QuietLaws.{clean_before, idle_then, quiet_none, quiet_then}
 use Rattle.reg_tables.specs.Whole.{IsWhole}
 use Rattle.reg_tables.proofs.ExamineLemmas.{tests_all, tests_false, tests_true, whole_more, whole_not}

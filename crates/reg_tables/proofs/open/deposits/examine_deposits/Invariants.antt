@@ -1,8 +1,8 @@
 use Rattle.std.proofs.Common.{◌≡◌, ◌+◌, ◌<◌, ℕ, length, false}
 use Rattle.sqlite.specs.State.{HasCleanDisk}
 use Rattle.sqlite.specs.Held.{state}
-use Rattle.reg_tables.specs.Digests.{AreBelow, HoldsDigests}
-use Rattle.reg_tables.specs.Heads.{HoldsKnown}
+use Rattle.reg_tables.specs.Private.Digests.{AreBelow, HoldsDigests}
+use Rattle.reg_tables.specs.Private.Heads.{HoldsKnown}
 use Rattle.reg_tables.specs.Quiet.{IsIdle, IsStill}
 use Rattle.reg_tables.specs.Whole.{IsWhole}
 use Rattle.reg_tables.proofs.open.deposits.examine_deposits.Given as goal

@@ -4,8 +4,8 @@ use Rattle.sqlite.specs.Effect.{Database}
 use Rattle.sqlite.specs.Held.{state}
 use Rattle.reg_store.specs.Keep.{sent_of}
 use Rattle.reg_tables.specs.declared.memory.file.KnownFile.{KnownFile}
-use Rattle.reg_tables.specs.Digests.{IsNew}
-use Rattle.reg_tables.specs.Heads.{KnowsFile}
+use Rattle.reg_tables.specs.Private.Digests.{IsNew}
+use Rattle.reg_tables.specs.Private.Heads.{KnowsFile}
 use Rattle.reg_tables.proofs.QuietLaws.{clean_before, idle_then, quiet_then}
 use Rattle.reg_tables.proofs.ExamineLemmas.{tests_empty, tests_false, tests_first, tests_some, tests_then, tests_true}
 use Rattle.reg_tables.proofs.open.deposits.examine_kept.Goals as goal

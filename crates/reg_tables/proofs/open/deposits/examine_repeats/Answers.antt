@@ -1,7 +1,7 @@
 use Rattle.std.proofs.Common.{rules, ◌≡◌, IfSome, subst}
 use Rattle.sqlite.specs.Held.{state}
 use Rattle.reg_store.specs.Keep.{sent_of}
-use Rattle.reg_tables.specs.Digests.{HasEqual, HasNoEqual}
+use Rattle.reg_tables.specs.Private.Digests.{HasEqual, HasNoEqual}
 use Rattle.reg_tables.proofs.ExamineLemmas.{new_tests, old_tests}
 use Rattle.reg_tables.proofs.open.deposits.examine_repeats.Goals as goal
 

@@ -1,7 +1,7 @@
 use Rattle.std.proofs.Common.{rules, ◌≡◌, true, false, ap, ◌∙◌, subst}
 use Rattle.sqlite.specs.Held.{state}
 use Rattle.reg_store.specs.Keep.{sent_of}
-use Rattle.reg_tables.specs.Digests.{IsNew, numbers_under, own_digest}
+use Rattle.reg_tables.specs.Private.Digests.{IsNew, numbers_under, own_digest}
 use Rattle.reg_tables.specs.Whole.{HoldsBody, Tests}
 use Rattle.reg_tables.proofs.ExamineLemmas.{tests_empty, tests_some}
 use Rattle.reg_tables.proofs.open.deposits.kept_head.Goals as goal

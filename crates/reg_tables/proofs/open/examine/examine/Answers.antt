@@ -3,8 +3,8 @@ use Rattle.sqlite.specs.Effect.{Database}
 use Rattle.sqlite.specs.Held.{state}
 use Rattle.reg_tables.proofs.QuietLaws.{clean_before, idle_then, quiet_then}
 use Rattle.reg_tables.specs.Adoption.{CountsDeposits, Examines, InEachFormat}
-use Rattle.reg_tables.specs.Digests.{HoldsDigests}
-use Rattle.reg_tables.specs.Heads.{HoldsKnown}
+use Rattle.reg_tables.specs.Private.Digests.{HoldsDigests}
+use Rattle.reg_tables.specs.Private.Heads.{HoldsKnown}
 use Rattle.reg_tables.proofs.ExamineLemmas.{meta_examines}
 use Rattle.reg_tables.proofs.open.examine.examine.Goals as goal
 

@@ -4,8 +4,8 @@ use Rattle.sqlite.specs.Held.{state}
 use Rattle.reg_tables.specs.Adoption.{Examines}
 use Rattle.reg_tables.proofs.QuietLaws.{clean_before, idle_then, quiet_then}
 use Rattle.reg_tables.specs.Whole.{AreWhole, Counts, Tests}
-use Rattle.reg_tables.specs.Digests.{HoldsDigests}
-use Rattle.reg_tables.specs.Heads.{HoldsKnown}
+use Rattle.reg_tables.specs.Private.Digests.{HoldsDigests}
+use Rattle.reg_tables.specs.Private.Heads.{HoldsKnown}
 use Rattle.reg_tables.proofs.ExamineLemmas.{finds_none, finds_whole, none_examines, tests_false, tests_true}
 use Rattle.reg_tables.proofs.QueryLemmas.{fault_is, fault_quiet}
 use Rattle.reg_tables.proofs.open.examine.read_register.Goals as goal

@@ -1,7 +1,7 @@
 use Rattle.std.proofs.Common.{take, false}
 use Rattle.sqlite.specs.State.{HasCleanDisk}
 use Rattle.sqlite.specs.Held.{state}
-use Rattle.reg_tables.specs.Digests.{HasNoEqual}
+use Rattle.reg_tables.specs.Private.Digests.{HasNoEqual}
 use Rattle.reg_tables.specs.Quiet.{IsIdle, IsStill}
 use Rattle.reg_tables.proofs.read.equal.read_equal.Given as goal
 

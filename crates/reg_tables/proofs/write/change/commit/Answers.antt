@@ -2,8 +2,8 @@ use Rattle.std.proofs.Common.{rules, arith, ◌≡◌, sym, subst}
 use Rattle.sqlite.specs.State.{HasCleanDisk, Survives}
 use Rattle.sqlite.specs.Held.{state}
 use Rattle.sqlite.proofs.Callers.{survives_begin}
-use Rattle.reg_tables.specs.Commits.{Makes}
-use Rattle.reg_tables.specs.KeepLaws.{ChangesOf}
+use Rattle.reg_tables.specs.Private.Commits.{Makes}
+use Rattle.reg_tables.specs.Private.KeepLaws.{ChangesOf}
 use Rattle.reg_tables.proofs.AddsLemmas.{change_left}
 use Rattle.reg_tables.proofs.write.change.commit.Given.{Over}
 use Rattle.reg_tables.proofs.write.change.commit.Goals.{After-commit}

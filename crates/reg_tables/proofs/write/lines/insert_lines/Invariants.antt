@@ -2,8 +2,8 @@ use Rattle.std.proofs.Common.{◌≡◌, ◌*◌, take}
 use Rattle.sqlite.specs.State.{HasCleanDisk, KeepsCommit, Survives}
 use Rattle.sqlite.specs.Held.{state}
 use Rattle.reg_tables.specs.Rows.{line_rows}
-use Rattle.reg_tables.specs.Inserts.{AddsLines}
-use Rattle.reg_tables.specs.Inside.{Inside}
+use Rattle.reg_tables.specs.Private.Inserts.{AddsLines}
+use Rattle.reg_tables.specs.Private.Inside.{Inside}
 use Rattle.reg_tables.proofs.write.lines.insert_lines.Given as goal
 
 abbrev pub invariant-loop-part : goal.invariant-loop-part

@@ -2,8 +2,8 @@ use Rattle.std.proofs.Common.{◌≡◌, take}
 use Rattle.sqlite.specs.State.{HasCleanDisk, KeepsCommit, Survives}
 use Rattle.sqlite.specs.Held.{state}
 use Rattle.reg_tables.specs.Rows.{step_rows}
-use Rattle.reg_tables.specs.Inserts.{AddsSteps}
-use Rattle.reg_tables.specs.Inside.{Inside}
+use Rattle.reg_tables.specs.Private.Inserts.{AddsSteps}
+use Rattle.reg_tables.specs.Private.Inside.{Inside}
 use Rattle.reg_tables.proofs.write.steps.insert_each_step.Given as goal
 
 abbrev pub invariant-loop-step : goal.invariant-loop-step

@@ -1,6 +1,6 @@
 use Rattle.std.proofs.Common.{sym, ap, ◌∙◌}
 use Rattle.reg_tables.specs.declared.memory.digests.Digests.{Digests}
-use Rattle.reg_tables.specs.Digests.{numbers_under}
+use Rattle.reg_tables.specs.Private.Digests.{numbers_under}
 use Rattle.reg_tables.proofs.RepeatsLemmas.{room_made}
 use Rattle.reg_tables.proofs.memory.digests.Digests.make_room.Goals as goal
 use Rattle.reg_tables.proofs.memory.digests.Digests.make_room.Goals.{then-not-contains_key+in_ok-insert+in-Some-1, then-not-contains_key+in_ok-insert+in-None-1, else-not-contains_key}

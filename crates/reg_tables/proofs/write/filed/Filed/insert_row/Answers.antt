@@ -2,7 +2,7 @@ use Rattle.std.proofs.Common.{arith}
 use Rattle.std.proofs.lemmas.Result.{on_ok_weaker}
 use Rattle.sqlite.specs.State.{HasCleanDisk}
 use Rattle.sqlite.specs.Held.{state}
-use Rattle.reg_tables.specs.Filed.{filed_deposit}
+use Rattle.reg_tables.specs.Private.Filed.{filed_deposit}
 use Rattle.reg_tables.proofs.InsertsLaws.{puts_deposit}
 use Rattle.reg_tables.proofs.write.filed.Filed.insert_row.Goals as goal
 

@@ -1,9 +1,9 @@
--- What the tables of a register say of its list. No promise is made of these words.
+-- What the tables of a register say of its list.
 use Rattle.std.proofs.Common.{◌≡◌, List}
 use Rattle.sqlite.specs.Effect.{Database}
 use Rattle.ags_dict.specs.Entries.{Entries}
 use Rattle.reg_store.specs.Deposit.{Deposit}
-use Rattle.reg_tables.specs.Marks.{tables_back}
+use Rattle.reg_tables.specs.Private.Marks.{tables_back}
 use Rattle.reg_tables.specs.Register.{deposits_in, IsRegister}
 
 -- The deposits in the tables of a register are its list.

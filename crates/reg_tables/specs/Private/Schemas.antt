@@ -1,4 +1,4 @@
--- The tables that the test of a schema expects, as a schema has them. No promise is made of these words.
+-- The tables that the test of a schema expects, as a schema has them.
 use Rattle.std.specs.Prelude.{◌≡◌, ℕ, true, false, List, [], ◌∷◌, map, Option, Some, None}
 use Rattle.sqlite.specs.Table.{Table}
 use Rattle.sqlite.specs.Schema.{Schema}

@@ -1,4 +1,4 @@
--- What was sent is read back, and one deposit more is held. No promise is made of these words.
+-- What was sent is read back, and one deposit more is held.
 use Rattle.std.proofs.Common.{◌≡◌, ℕ, suc, ◌+◌, ◌<◌, List, [], ◌∷◌, ◌++◌, filter, unwrap_or, append_assoc, length}
 use Rattle.std.proofs.Common.{length-append, slice_get, refl, sym, ap, subst, ◌∙◌, arith}
 use Rattle.std.specs.List.Sorted.{IsPermutation}
@@ -10,7 +10,7 @@ use Rattle.sqlite.specs.Tree.{Trees}
 use Rattle.reg_store.specs.Sent.{Sent}
 use Rattle.reg_tables.specs.Rows.{given_deposit, deposit_table, has_number}
 use Rattle.reg_tables.specs.Register.{deposit_rows, deposit_in, deposit_at, deposits_from, sents_in}
-use Rattle.reg_tables.specs.Pushes.{equal_at, apart_at}
+use Rattle.reg_tables.specs.Private.Pushes.{equal_at, apart_at}
 
 -- among the rows of a list one has the number of a deposit
 pub none_before : (n m : ℕ) (list : List Sent) → n < m → filter (has_number n) (deposit_rows m list) ≡ []

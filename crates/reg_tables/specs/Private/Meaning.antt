@@ -1,4 +1,4 @@
--- Schemas while a register is made, and texts of plain statements. No promise is made of these words.
+-- Schemas while a register is made, and texts of plain statements.
 use Rattle.std.specs.Prelude.{List, ℕ}
 use Rattle.sqlite.specs.Change.{created}
 use Rattle.sqlite.specs.Schema.{Schema}

@@ -1,4 +1,4 @@
--- What is known of each deposit as a register is examined. No promise is made of these words; `Agrees` uses some.
+-- What is known of each deposit as a register is examined.
 use Rattle.std.specs.Prelude.{◌≡◌, ℕ, ◌+◌, Bool, true, false, List, [], ◌∷◌, ◌++◌, Some, slice_get, Result, Ok}
 use Rattle.std.specs.Option.{ForSome}
 use Rattle.std.specs.declared.alloc.Global.{Global}
@@ -14,7 +14,7 @@ use Rattle.reg_tables.specs.declared.memory.file.KnownFile.{KnownFile}
 use Rattle.reg_store.specs.declared.keep.KeptHead.{KeptHead}
 use Rattle.reg_store.specs.Reading.{HasProjectRows, OfFile}
 use Rattle.reg_store.specs.Sent.{Sent}
-use Rattle.reg_tables.specs.Digests.{AddsNumber, IsRowOf, own_digest}
+use Rattle.reg_tables.specs.Private.Digests.{AddsNumber, IsRowOf, own_digest}
 
 -- the head of what was sent, as of a deposit without a mark
 abbrev pub head_of : Sent → KeptHead

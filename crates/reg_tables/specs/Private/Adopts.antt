@@ -1,4 +1,4 @@
--- The numbers that a SELECT of all deposits shows. No promise is made of these words.
+-- The numbers that a SELECT of all deposits shows.
 use Rattle.std.proofs.Common.{ℕ, zero, suc, ◌+◌, pos, List, [], ◌∷◌}
 use Rattle.sqlite.specs.declared.types.Value.TheVariants.{Int}
 use Rattle.sqlite.specs.Order.{Row}

@@ -1,4 +1,4 @@
--- What the inserts do. No promise is made of these words.
+-- What the inserts do.
 use Rattle.std.proofs.Common.{◌≡◌, ◌≢◌, ℕ, List, [], ◌∷◌, map}
 use Rattle.std.specs.List.{AllByRecursion}
 use Rattle.sqlite.specs.Order.{Row}

@@ -1,4 +1,4 @@
--- How numbers compare as values of the database. No promise is made of these words.
+-- How numbers compare as values of the database.
 use Rattle.std.proofs.Common.{◌≡◌, ◌≢◌, ℕ, pos, true, false, ap, ◌∙◌, arith}
 use Rattle.std.specs.Ordering.{is_eq}
 use Rattle.std.proofs.lemmas.Int.{ints}

@@ -1,4 +1,4 @@
--- The marks of deposits as rows: they are read back, and there may be one more. No promise is made of these words.
+-- The marks of deposits as rows: they are read back, and there may be one more.
 use Rattle.std.proofs.Common.{◌≡◌, ℕ, zero, suc, ◌+◌, ◌<◌, List, [], ◌∷◌, length, Bool, true, false, Some}
 use Rattle.std.proofs.Common.{slice_get, refl, sym, ap, subst, ◌∙◌, arith}
 use Rattle.std.specs.List.{list_any}
@@ -11,8 +11,8 @@ use Rattle.reg_store.specs.Deposit.{Deposit, sents}
 use Rattle.reg_tables.specs.declared.schema.format.Format.TheVariants.{Second}
 use Rattle.reg_tables.specs.Rows.{deposit_table, has_number}
 use Rattle.reg_tables.specs.Register.{deposit_rows, deposits_in, mark_rows, mark_table, marks_of, with_marks}
-use Rattle.reg_tables.specs.Pushes.{equal_at, apart_at}
-use Rattle.reg_tables.specs.RegisterLaws.{sents_back}
+use Rattle.reg_tables.specs.Private.Pushes.{equal_at, apart_at}
+use Rattle.reg_tables.specs.Private.RegisterLaws.{sents_back}
 
 pub long_sents : (list : List Deposit) → length (sents list) ≡ length list
 long_sents list = length-map list (λ d. d.sent)

@@ -1,5 +1,4 @@
--- What a call that changes the tables in a transaction of its own does, and what it leaves. No promise is made of these
--- words.
+-- What a call that changes the tables in a transaction of its own does, and what it leaves.
 use Rattle.std.specs.Prelude.{◌≡◌, false, IsTrue, Result, OnOk, OnErr}
 use Rattle.sqlite.specs.Effect.{Database, IsDatabase}
 use Rattle.sqlite.specs.State.{State, HasCleanDisk}

@@ -1,4 +1,4 @@
--- What is filed, as a deposit, and its adding. No promise is made of these words.
+-- What is filed, as a deposit, and its adding.
 use Rattle.std.specs.Prelude.{ℕ, ℤ, List, Result, pos}
 use Rattle.sqlite.specs.Effect.{Database}
 use Rattle.sqlite.specs.State.{State, Survives}
@@ -7,9 +7,9 @@ use Rattle.reg_tables.specs.declared.write.filed.Filed.{Filed}
 use Rattle.reg_store.specs.Sent.{Sent}
 use Rattle.reg_store.specs.Fit.{kept_rows}
 use Rattle.reg_tables.specs.Rows.{deposit_from}
-use Rattle.reg_tables.specs.Inserts.{AddsDeposit, AddsFile}
-use Rattle.reg_tables.specs.KeepLaws.{PutsOf}
-use Rattle.reg_tables.specs.Commits.{MakesIfOk, Makes}
+use Rattle.reg_tables.specs.Private.Inserts.{AddsDeposit, AddsFile}
+use Rattle.reg_tables.specs.Private.KeepLaws.{PutsOf}
+use Rattle.reg_tables.specs.Private.Commits.{MakesIfOk, Makes}
 
 -- what is filed, as a deposit
 abbrev pub filed_deposit : Filed → Sent

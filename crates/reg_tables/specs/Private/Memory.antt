@@ -1,5 +1,4 @@
--- What is known of the deposits without the tables, and that it agrees with the list of deposits. No promise is made of
--- these words; the type `SqlKeep` keeps `Agrees`.
+-- What is known of the deposits without the tables, and that it agrees with the list of deposits.
 use Rattle.std.specs.Prelude.{◌≡◌, ◌<◌, ◌+◌, ℕ, Bool, List, [], ◌∷◌, ◌++◌, length, IsSome, Some, slice_get}
 use Rattle.std.specs.Prelude.{vec_len, vec_capacity}
 use Rattle.ags_dict.specs.Entries.{Entries}
@@ -11,8 +10,8 @@ use Rattle.reg_tables.specs.declared.memory.Known.{Known}
 use Rattle.reg_tables.specs.declared.memory.Memory.{Memory}
 use Rattle.sqlite.specs.Effect.{Database}
 use Rattle.reg_tables.specs.Register.{IsRegister, deposits_in}
-use Rattle.reg_tables.specs.Digests.{AreBelow, AreDigested, found_at, numbers_under, own_digest}
-use Rattle.reg_tables.specs.Heads.{KnowsFile, head_of}
+use Rattle.reg_tables.specs.Private.Digests.{AreBelow, AreDigested, found_at, numbers_under, own_digest}
+use Rattle.reg_tables.specs.Private.Heads.{KnowsFile, head_of}
 
 -- the head with this mark
 abbrev pub with_mark : KeptHead → Bool → KeptHead

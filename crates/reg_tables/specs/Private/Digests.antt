@@ -1,5 +1,4 @@
--- The digests of a register's deposits, which are in memory, and the deposits that are equal to one. No promise is made
--- of these words; the type `SqlKeep` keeps some of them, in `Agrees`.
+-- The digests of a register's deposits, which are in memory, and the deposits that are equal to one.
 use Rattle.std.specs.Prelude.{◌≡◌, ℕ, ◌+◌, ◌<◌, Bool, true, false, eqb, if◌then◌else◌, List, [], ◌∷◌, ◌++◌, filter}
 use Rattle.std.specs.Prelude.{Option, Some, slice_get}
 use Rattle.std.specs.List.{list_any}

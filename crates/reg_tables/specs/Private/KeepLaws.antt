@@ -1,4 +1,4 @@
--- The laws of the store. No promise is made of these words.
+-- The laws of the store.
 use Rattle.std.specs.Prelude.{◌≡◌, ℕ, List, [], ◌∷◌, length, All, IsTrue}
 use Rattle.std.proofs.Common.{◌≤◌, zero, suc, refl, sym, ap, ◌∙◌, subst, arith}
 use Rattle.std.proofs.Math.Logic.{∥∥₁_elim, ∥∥₁_map}
@@ -12,12 +12,12 @@ use Rattle.ags_check.specs.Findings.{CheckedFile}
 use Rattle.reg_store.specs.declared.keep.KeptRow.{KeptRow}
 use Rattle.reg_store.specs.Sent.{Sent}
 use Rattle.reg_store.specs.Deposit.{Deposit, sents}
-use Rattle.reg_tables.specs.Inserts.{AddsFile}
-use Rattle.reg_tables.specs.Marks.{long_sents}
+use Rattle.reg_tables.specs.Private.Inserts.{AddsFile}
+use Rattle.reg_tables.specs.Private.Marks.{long_sents}
 use Rattle.reg_store.specs.Fit.{IsFit, IsFileOf}
 use Rattle.reg_store.specs.PlainLaws.{fit_of}
 use Rattle.reg_tables.specs.Register.{deposits_in, text_in, LeavesBroken, LeavesList, KeepsRegister, IsRegister, tables}
-use Rattle.reg_tables.specs.ReadBack.{read_back}
+use Rattle.reg_tables.specs.Private.ReadBack.{read_back}
 
 -- ---- no kept body has a finding
 

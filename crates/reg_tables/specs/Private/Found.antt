@@ -1,4 +1,4 @@
--- What the queries of a register find, and what they leave. No promise is made of these words.
+-- What the queries of a register find, and what they leave.
 use Rattle.std.specs.Prelude.{◌≡◌, ℕ, Bool, true, false, List, map, filter, length, Option, None, is_some, IfSome}
 use Rattle.std.specs.Prelude.{Result, Ok, IfOk, OnOk}
 use Rattle.std.specs.declared.alloc.Global.{Global}
@@ -16,9 +16,9 @@ use Rattle.reg_tables.specs.declared.schema.format.Format.TheVariants.{Second}
 use Rattle.reg_tables.specs.Rows.{columns_3, deposit_table, has_number}
 use Rattle.reg_tables.specs.Register.{deposit_rows, mark_rows, mark_table, meta_columns}
 use Rattle.reg_tables.specs.Quiet.{FindsThat, IsTheSame}
-use Rattle.reg_tables.specs.Digests.{HasEqual, HasNoEqual, IsRowOf}
-use Rattle.reg_tables.specs.Adopts.{number_rows}
-use Rattle.reg_tables.specs.Methods.{HoldsSteps}
+use Rattle.reg_tables.specs.Private.Digests.{HasEqual, HasNoEqual, IsRowOf}
+use Rattle.reg_tables.specs.Private.Adopts.{number_rows}
+use Rattle.reg_tables.specs.Private.Methods.{HoldsSteps}
 use Rattle.reg_tables.specs.Whole.{Tests}
 
 -- On a clean disk, a query of the text only shows rows: it is a statement that has no RETURNING and does not read the

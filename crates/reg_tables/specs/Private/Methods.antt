@@ -1,5 +1,4 @@
--- What the private functions that read lines and steps find, from what the connection shows. No promise is made of
--- these words.
+-- What the private functions that read lines and steps find, from what the connection shows.
 use Rattle.std.specs.Prelude.{◌≡◌, ℕ, List, map}
 use Rattle.std.specs.List.Sorted.{IsPermutation}
 use Rattle.sqlite.specs.Tree.{IsAscending}
