@@ -6,11 +6,12 @@ usage: conformance/room.py PROGRAM [MB..]      the last line is 'N passed, M fai
                                                crates/reg_tables/src/memory/room.rt
 
 Under each limit of address space (48 to 256 MB where none is named) `serve` is given deposits of a kind until one is
-answered `out of memory`: of 1 kB, of 1 MB, and of 20 kB with many steps. The listing goes on. Then, under the same
-limit, a start lists as many deposits as there were receipts, draws the first one whole, and takes a deposit more or
-answers `out of memory`; a start after that lists what has a receipt. Of small deposits no less than half of the limit
-is used, of others no less than a third: the least limit under which the register opens is printed. What is said above
-three quarters is said once. The same for `init` with a dictionary, and for `migrate`."""
+answered `out of memory`: of 1 kB, of 1 MB, of 20 kB with many steps, and of 50 kB with many sets of KEY headings. The
+listing goes on. Then, under the same limit, a start lists as many deposits as there were receipts, draws the first one
+whole, and takes a deposit more or answers `out of memory`; a start after that lists what has a receipt. Of small
+deposits no less than half of the limit is used, of others no less than a third: the least limit under which the
+register opens is printed. What is said above three quarters is said once. The same for `init` with a dictionary, and
+for `migrate`."""
 import os
 import resource
 import sqlite3
@@ -18,6 +19,7 @@ import sys
 import tempfile
 sys.dont_write_bytecode = True
 sys.path.insert(0, os.path.join(os.path.dirname(os.path.abspath(__file__)), "..", "bench"))
+import costly  # noqa: E402
 import dictionaries  # noqa: E402
 import files  # noqa: E402
 import servers  # noqa: E402
@@ -41,8 +43,9 @@ def renamed(text):
 
 
 # The files of each kind, by number, and the limits in MB under which it is tried where none is named.
-KINDS = {"1 kB": small, "1 MB": renamed(files.deep(MB)), "steps": renamed(files.steps(20_000))}
-LIMITS = {"1 kB": (48, 96), "1 MB": (48, 96, 256), "steps": (48, 96)}
+KINDS = {"1 kB": small, "1 MB": renamed(files.deep(MB)), "steps": renamed(files.steps(20_000)),
+         "sets": renamed(costly.subsets_of_all(50_000))}
+LIMITS = {"1 kB": (48, 96), "1 MB": (48, 96, 256), "steps": (48, 96), "sets": (48, 96)}
 
 
 def limit_of(size):
@@ -202,7 +205,7 @@ def measure(program):
             ("1 kB", mini, lambda size: None, 0, 1000), ("deep", mini, files.deep, MB, 6),
             ("deep, one", mini, files.deep, 4 * MB, 1), ("flat", mini, files.flat, MB, 6),
             ("flat, one", mini, files.flat, 4 * MB, 1), ("ring", mini, files.ring, MB, 6),
-            ("steps", mini, files.steps, 20_000, 4), ("steps, one", mini, files.steps, 40_000, 1),
+            ("steps", mini, files.steps, 20_000, 4), ("steps, one", mini, files.steps, 40_000, 1), ("sets", mini, costly.subsets_of_all, 50_000, 1),
             ("narrow", mini, files.narrow, MB, 1), ("wide", mini, files.wide, MB, 1),
             ("children", mini, files.children, MB, 1), ("160 groups", dictionaries.large(), lambda size: None, 0, 1),
             ("1,000 groups", dictionaries.large(1000, 100_000), lambda size: None, 0, 1)]:

@@ -28,6 +28,7 @@ use Rattle.reg_tables.specs.Private.Inserts.{AddsTo, AddsDeposit, AddsLines, Add
 use Rattle.reg_tables.specs.Private.Commits.{Makes}
 use Rattle.reg_tables.specs.Private.Inside.{Inside}
 use Rattle.reg_tables.specs.Private.KeepLaws.{ChangesOf}
+use Rattle.reg_tables.specs.Quiet.{IsUndone}
 use Rattle.reg_tables.specs.Register.{KeepsRegister}
 
 pub more_then : (old xs mid ys new : List Row) → IsMore old xs mid → IsMore mid ys new → IsMore old (xs ++ ys) new
@@ -154,10 +155,10 @@ kept_by sql params old new (Ok n) h = record { was_open = λ o. h.1.was_open; co
 kept_by sql params old new (Err e) (inl (h, how)) = kept_either old new how
 kept_by sql params old new (Err e) (inr h) = kept_either old new (inl h.2)
 
-pub undone_by : (old mid new : State) → KeepsCommit old mid → IsRolledBack mid new → IsTrue new.is_open → (new.now ≡ old.committed) × (new.committed ≡ old.committed)
+pub undone_by : (old mid new : State) → KeepsCommit old mid → IsRolledBack mid new → IsTrue new.is_open → IsUndone old new
 undone_by old mid new kept back o =
     let was = kept.committed (back.was_open o) in
-    let it = back.undone o in (it.0 ∙ was, it.1 ∙ was)
+    let it = back.undone o in (it.0 ∙ was, it.1 ∙ was, back.unmarked)
 
 pub open_before : (old mid new : State) → KeepsCommit old mid → IsRolledBack mid new → IsTrue new.is_open → IsTrue old.is_open
 open_before old mid new kept back o = kept.was_open (back.was_open o)

@@ -24,7 +24,7 @@ found_tables {image} s opened found =
 -- a connection that stayed as it was opened shows what an open finds
 pub found_still : {image : Image} (old new : State) → Opens old → FindsIn image old → IsAsBefore old new → FindsTables image new.now.trees × (new.committed ≡ new.now)
 found_still {image} old new opened found same =
-    (subst (λ (db : Database). FindsTables image db.trees) (sym same.1) (found_tables {image = image} old opened found), same.2 ∙ sym opened.clean ∙ sym same.1)
+    (subst (λ (db : Database). FindsTables image db.trees) (sym same.1.0) (found_tables {image = image} old opened found), same.1.1 ∙ sym opened.clean ∙ sym same.1.0)
 
 pub found_register : {image : Image} {dictionary : Entries} {text : List ℕ} {list : List Deposit} (s : State) → Opens s → FindsIn image s
     → ∥ IsRegister s.now dictionary list ∥₁ × (text_in s.now.trees ≡ text) → ∥ HoldsRegister image dictionary text list ∥₁

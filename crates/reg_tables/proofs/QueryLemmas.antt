@@ -23,8 +23,8 @@ use Rattle.reg_store.specs.Keep.{is_store}
 use Rattle.reg_tables.specs.declared.error.AdoptError.{AdoptError}
 use Rattle.reg_tables.specs.declared.error.AdoptError.TheVariants.{NoMemory, Store}
 use Rattle.reg_tables.specs.Adoption.{adopt_error, is_store_failure}
-use Rattle.reg_tables.specs.Quiet.{IsAsBefore, IsStill}
-use Rattle.reg_tables.proofs.QuietLaws.{clean_before, quiet_read, survives_same}
+use Rattle.reg_tables.specs.Quiet.{IsAsBefore, IsStill, IsUndone}
+use Rattle.reg_tables.proofs.QuietLaws.{clean_before, quiet_read, same_then, survives_same}
 
 pub plain_at : (sql : List ℕ) (s : State) → IsPlainText sql → HasTables s.now.schema → IsPlain (understood s.now.schema sql)
 plain_at sql s plain has = plain s.now.schema has
@@ -48,8 +48,8 @@ fails_so sql params old new e (inr h) = shows h.0.returning h.2
 
 -- either leaves what was committed, where that was all
 as_before : (old new : State) → (IsTrue old.is_open → old.committed ≡ old.now) → IsTrue new.is_open → IsUnchanged old new ⊎ IsRolledBack old new → IsAsBefore old new
-as_before old new settled is_open (inl same) = (same.0.was_open, same.0.now_is, same.0.committed_is)
-as_before old new settled is_open (inr back) = let u = back.undone is_open in let was = back.was_open is_open in (was, u.0 ∙ settled was, u.1)
+as_before old new settled is_open (inl same) = (same.0.was_open, (same.0.now_is, same.0.committed_is, inl same.2))
+as_before old new settled is_open (inr back) = let u = back.undone is_open in let was = back.was_open is_open in (was, (u.0 ∙ settled was, u.1, inr back.unmarked))
 
 pub fails_keeps : (sql : List ℕ) (params : Row) (old new : State) (e : Error) → (IsTrue old.is_open → old.committed ≡ old.now) → IsTrue new.is_open → FailsToQuery sql params old new e → IsAsBefore old new
 fails_keeps sql params old new e settled is_open h = as_before old new settled is_open (fails_so sql params old new e h)
@@ -100,7 +100,7 @@ pub ok_quiet : (old new : State) → new.in_transaction ≡ false → (HasCleanD
 ok_quiet old new idle is_open stays survives = record {
   idle = idle;
   is_open = λ clean _. both_open (is_open clean) (stays clean (is_open clean)).0;
-  same = λ clean _. (let it = stays clean (is_open clean) in (it.1, it.2));
+  same = λ clean _. (stays clean (is_open clean)).1;
   still = stays;
   survives = survives;
 }
@@ -130,23 +130,23 @@ pub still_then : {P : Trees → Type 0} (old mid new : State) → (HasCleanDisk 
     → (HasCleanDisk new → IsTrue new.is_open → IsAsBefore mid new) → Survives mid new P → HasCleanDisk new → IsTrue new.is_open → IsAsBefore old new
 still_then old mid new stays probe two clean is_open =
     let next = probe clean is_open in
-    let was = stays (clean_before mid new two clean) next.0 in (was.0, next.1 ∙ was.1, next.2 ∙ was.2)
+    let was = stays (clean_before mid new two clean) next.0 in (was.0, same_then old mid new was.1 next.1)
 
 -- what stays as it was shows what was committed, if it did so from the start
 pub settled_then : {P : Trees → Type 0} (old new : State) → (HasCleanDisk old → IsTrue old.is_open → old.committed ≡ old.now) → (HasCleanDisk new → IsTrue new.is_open → IsAsBefore old new) → Survives old new P
     → HasCleanDisk new → IsTrue new.is_open → new.committed ≡ new.now
-settled_then old new settled stays one clean is_open = let was = stays clean is_open in was.2 ∙ settled (clean_before old new one clean) was.0 ∙ sym was.1
+settled_then old new settled stays one clean is_open = let was = stays clean is_open in was.1.1 ∙ settled (clean_before old new one clean) was.0 ∙ sym was.1.0
 
 -- so does a connection on which a change was undone
-pub settled_undone : (old new : State) → (HasCleanDisk new → IsTrue new.is_open → (new.now ≡ old.committed) × (new.committed ≡ old.committed)) → HasCleanDisk new → IsTrue new.is_open → new.committed ≡ new.now
+pub settled_undone : (old new : State) → (HasCleanDisk new → IsTrue new.is_open → IsUndone old new) → HasCleanDisk new → IsTrue new.is_open → new.committed ≡ new.now
 settled_undone old new undone clean is_open = let it = undone clean is_open in it.1 ∙ sym it.0
 
 -- what a change that failed leaves of a connection that showed no more than was committed
-pub undone_still : {P : Trees → Type 0} (old new : State) → (HasCleanDisk new → IsTrue new.is_open → IsTrue old.is_open) → (HasCleanDisk new → IsTrue new.is_open → (new.now ≡ old.committed) × (new.committed ≡ old.committed))
+pub undone_still : {P : Trees → Type 0} (old new : State) → (HasCleanDisk new → IsTrue new.is_open → IsTrue old.is_open) → (HasCleanDisk new → IsTrue new.is_open → IsUndone old new)
     → (HasCleanDisk old → IsTrue old.is_open → old.committed ≡ old.now) → Survives old new P → HasCleanDisk new → IsTrue new.is_open → IsAsBefore old new
 undone_still old new was_open undone settled one clean is_open =
     let was = was_open clean is_open in
-    let it = undone clean is_open in (was, it.0 ∙ settled (clean_before old new one clean) was, it.1)
+    let it = undone clean is_open in (was, (it.0 ∙ settled (clean_before old new one clean) was, it.1, inr it.2))
 
 -- what is known of a connection on which a change was undone, and which is then asked whether it is open
 pub ruleset undone_laws = (settled_undone, still_then, undone_still)
@@ -157,7 +157,7 @@ pub refused_quiet : (old mid new : State) (failed : Bool) → new.in_transaction
 refused_quiet old mid new failed mode stays one unchanged probe two = record {
   idle = mode;
   is_open = λ clean well. both_open (unchanged clean well).0.is_open (was clean well).0;
-  same = λ clean well. (let at = (unchanged clean well).0 in let it = was clean well in (at.now_is ∙ it.1, at.committed_is ∙ it.2));
+  same = λ clean well. (let at = unchanged clean well in same_then old mid new (was clean well).1 (at.0.now_is, at.0.committed_is, inl at.2));
   still = still_then old mid new stays probe two;
   survives = survives_then old mid new _ _ (λ _. ⊥) (λ _ db none. none) (λ _ db none. none) one two;
 }

@@ -1,12 +1,12 @@
 -- Lemmas on the definitions of specs/Quiet.antt.
 use Rattle.std.specs.Prelude.{◌≡◌, Bool, false, IsTrue}
-use Rattle.std.proofs.Common.{sym, subst, ◌∙◌, refl, arith, inl}
+use Rattle.std.proofs.Common.{sym, subst, ◌∙◌, refl, arith, inl, inr}
 use Rattle.sqlite.specs.Tree.{Trees}
 use Rattle.sqlite.specs.Effect.{Database}
 use Rattle.sqlite.specs.State.{State, HasCleanDisk, Survives}
 use Rattle.sqlite.proofs.StateLemmas.{survives_then}
 use Rattle.reg_tables.specs.Tables.{HasTables}
-use Rattle.reg_tables.specs.Quiet.{IsIdle, IsStill}
+use Rattle.reg_tables.specs.Quiet.{IsIdle, IsStill, ShowsTheSame}
 
 -- a store that is sound after a call was sound before it
 pub clean_before : {P : Trees → Type 0} (old new : State) → Survives old new P → HasCleanDisk new → HasCleanDisk old
@@ -36,13 +36,19 @@ quiet_read old new failed quiet = record {
 pub survives_same : {P : Trees → Type 0} (s : State) → Survives s s P
 survives_same s = record { clean = omega arith; shield = λ is. is; counts = omega arith; limit = refl; closes = λ clean o. inl o; crash = λ clean db may. inl may }
 
+pub same_itself : (s : State) → ShowsTheSame s s
+same_itself s = (refl, refl, inl refl)
+
+pub same_then : (a b c : State) → ShowsTheSame a b → ShowsTheSame b c → ShowsTheSame a c
+same_then a b c one two = (two.0 ∙ one.0, two.1 ∙ one.1, elim two.2 [ inl is ↦ elim one.2 [ inl was ↦ inl (is ∙ was) | inr none ↦ inr (is ∙ none) ] | inr none ↦ inr none ])
+
 -- no call, no change
 pub quiet_none : (s : State) (failed : Bool) → s.in_transaction ≡ false → IsStill s s failed
 quiet_none s failed idle = record {
   idle = idle;
   is_open = λ clean _. refl;
-  same = λ clean _. (refl, refl);
-  still = λ clean o. (o, refl, refl);
+  same = λ clean _. same_itself s;
+  still = λ clean o. (o, same_itself s);
   survives = survives_same s;
 }
 
@@ -50,12 +56,10 @@ pub quiet_then : (a b c : State) (failed : Bool) → IsStill a b false → IsSti
 quiet_then a b c failed one two = record {
   idle = two.idle;
   is_open = λ clean well. two.is_open clean well ∙ one.is_open (clean_before b c two.survives clean) refl;
-  same = λ clean well.
-      (let early = clean_before b c two.survives clean in let first = one.same early refl in
-      let next = two.same clean well in (next.0 ∙ first.0, next.1 ∙ first.1));
+  same = λ clean well. same_then a b c (one.same (clean_before b c two.survives clean) refl) (two.same clean well);
   still = λ clean o.
       (let next = two.still clean o in let first = one.still (clean_before b c two.survives clean) next.0 in
-      (first.0, next.1 ∙ first.1, next.2 ∙ first.2));
+      (first.0, same_then a b c first.1 next.1));
   survives = survives_then a b c _ _ (λ _. ⊥) (λ _ db none. none) (λ _ db none. none) one.survives two.survives;
 }
 

@@ -8,9 +8,9 @@ ghost use Rattle.sqlite.specs.Held.{state};
 ghost use Rattle.reg_tables.specs.Private.Memory.{Agrees};
 ghost use Rattle.reg_tables.specs.Register.{deposits_in, KeepsIfClean, KeepsRegister, LeavesBroken, LeavesList, text_in};
 
+use crate::memory::Memory;
 use crate::memory::digests::digest_of;
 use crate::memory::file::KnownFile;
-use crate::memory::{Memory, copied_rows};
 use crate::read::equal::read_equal;
 use crate::read::graph::read_graph;
 use crate::read::lines::read_lines;
@@ -23,9 +23,7 @@ use ags_check::Checked;
 use ags_dict::Dictionary;
 use ags_links::Graph;
 use reg_policy::{Day, Name};
-use reg_store::{
-    HeadedRow, Keep, KeepError, Kept, KeptHead, KeptRow, MOST, NextStart, project_rows_in,
-};
+use reg_store::{HeadedRow, Keep, KeepError, Kept, KeptHead, KeptRow, MOST, NextStart};
 use sqlite::{Alter, Connection};
 use std::alloc::Global;
 
@@ -161,14 +159,9 @@ impl<S: Alter> Keep for SqlKeep<S> {
     }
 
     fn project_rows(&mut self, n: u32) -> Result<Vec<HeadedRow>, KeepError> {
-        if let Some(rows) = self.memory.held_project(n) {
-            let copied = copied_rows(self.alloc, rows)?;
-            return Ok(copied);
-        }
-        let rows = self.rows(n)?;
-        let graph = self.steps(n)?;
-        let found = project_rows_in(self.alloc, &rows, &graph)?;
-        Ok(found)
+        let found = self.memory.held_project(self.alloc, n);
+        self.has_failed = has_store_error(&found);
+        found
     }
 
     fn numbers(&mut self, project: &Name) -> Result<Vec<u32>, KeepError> {

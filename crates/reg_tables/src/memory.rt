@@ -160,18 +160,19 @@ impl Memory {
         self.digests.of(digest)
     }
 
-    /// The row of PROJ of deposit n, and the rows that it reaches, if they are in memory.
-    pub(crate) fn held_project(&self, n: u32) -> Option<&Vec<HeadedRow>>
-        ensures { (dictionary : Entries) (list : List Deposit) → Agrees self.now dictionary list
-            → IfSome result (λ rows. OfDeposit dictionary (sents list) n (HasProjectRows rows.now)) }
+    /// The row of PROJ of deposit n, and the rows that it reaches. A number that no deposit has is `Store`: the disk
+    /// that it was read from was not sound.
+    pub(crate) fn held_project(&self, alloc: Global, n: u32) -> Result<Vec<HeadedRow>, KeepError>
+        ensures read { IfOk result (λ rows. (dictionary : Entries) (list : List Deposit)
+            → Agrees self.now dictionary list → OfDeposit dictionary (sents list) n (HasProjectRows rows)) }
+        ensures refused { IfErr result (λ e. e ≢ KeepError.Full) }
+        ensures there { 0 < n → n ≤ length self.now.known.items → result ≢ Err KeepError.Store }
     {
         if !self.is_known(n) {
-            return None;
+            return Err(KeepError::Store);
         }
-        match &self.known[n as usize - 1].file.project {
-            Some(rows) => Some(rows),
-            None => None,
-        }
+        let rows = copied_rows(alloc, &self.known[n as usize - 1].file.project)?;
+        Ok(rows)
     }
 
     /// One deposit more, which is not known yet. There is room for it from then on, and there was memory enough for a
@@ -282,7 +283,7 @@ pub(crate) struct Coming {
 }
 
 /// The rows, once more.
-pub(crate) fn copied_rows(alloc: Global, rows: &[HeadedRow]) -> Result<Vec<HeadedRow>, AllocError>
+fn copied_rows(alloc: Global, rows: &[HeadedRow]) -> Result<Vec<HeadedRow>, AllocError>
     ensures { IfOk result (λ copied. copied.items ≡ rows.now) }
 {
     let mut copied = Vec::with_capacity(alloc, rows.len())?;

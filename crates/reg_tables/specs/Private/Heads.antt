@@ -1,6 +1,5 @@
 -- What is known of each deposit as a register is examined.
 use Rattle.std.specs.Prelude.{◌≡◌, ℕ, ◌+◌, Bool, true, false, List, [], ◌∷◌, ◌++◌, Some, slice_get, Result, Ok}
-use Rattle.std.specs.Option.{ForSome}
 use Rattle.std.specs.declared.alloc.Global.{Global}
 use Rattle.std.specs.declared.vec.Vec.{Vec}
 use Rattle.sqlite.specs.Effect.{Database}
@@ -11,6 +10,7 @@ use Rattle.reg_tables.specs.declared.open.head.DigestedHead.{DigestedHead}
 use Rattle.reg_tables.specs.declared.memory.Known.{Known}
 use Rattle.reg_tables.specs.declared.memory.digests.Digests.{Digests}
 use Rattle.reg_tables.specs.declared.memory.file.KnownFile.{KnownFile}
+use Rattle.reg_store.specs.declared.keep.HeadedRow.{HeadedRow}
 use Rattle.reg_store.specs.declared.keep.KeptHead.{KeptHead}
 use Rattle.reg_store.specs.Reading.{HasProjectRows, OfFile}
 use Rattle.reg_store.specs.Sent.{Sent}
@@ -20,10 +20,14 @@ use Rattle.reg_tables.specs.Private.Digests.{AddsNumber, IsRowOf, own_digest}
 abbrev pub head_of : Sent → KeptHead
 head_of d = record { firm = d.firm; project = d.project; embargo = d.embargo; withdrawn = false }
 
--- This is known of the file: its number of DATA rows, and, if they are held, its row of PROJ and the rows that it reaches.
+-- These are the file's row of PROJ and the rows that it reaches.
+pub record HoldsProject (file : CheckedFile) (held : Vec HeadedRow Global) : Type 0 where
+  pub rows : ∥ HasProjectRows held file ∥₁
+
+-- This is known of the file: its number of DATA rows, its row of PROJ and the rows that it reaches.
 pub record IsKnownOf (file : CheckedFile) (known : KnownFile) : Type 0 where
   pub rows : known.size.rows ≡ file.graph.rows
-  pub project : ForSome known.project (λ held. ∥ HasProjectRows held file ∥₁)
+  pub project : HoldsProject file known.project
 
 -- This is known of the deposit's file.
 abbrev pub KnowsFile : Entries → Sent → KnownFile → Type 0

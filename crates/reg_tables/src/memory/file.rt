@@ -14,7 +14,7 @@ use std::alloc::{AllocError, Global};
 pub(crate) struct KnownFile {
     pub size: Size,
     /// Its row of PROJ and the rows that it reaches.
-    pub project: Option<Vec<HeadedRow>>,
+    pub project: Vec<HeadedRow>,
 }
 
 impl KnownFile {
@@ -28,11 +28,9 @@ impl KnownFile {
         ensures { IfOk result (IsKnownOf file.now) }
     {
         let project = project_rows_in(alloc, rows, file.graph())?;
-        let bytes = file.bytes().len();
-        let held = bytes_held(&project);
         Ok(KnownFile {
-            size: Size::of(file, bytes.saturating_add(held)),
-            project: Some(project),
+            size: Size::of(file, file.bytes().len(), bytes_held(&project)),
+            project,
         })
     }
 }

@@ -8,8 +8,10 @@ use std::alloc::{AllocError, Global};
 /// How much a deposit has.
 #[derive(Clone, Copy)]
 pub(crate) struct Size {
-    /// Bytes of its body, and those that its row of PROJ and the rows that it reaches take in memory.
+    /// Bytes of its body.
     pub bytes: usize,
+    /// Bytes of memory that its row of PROJ and the rows that it reaches take.
+    pub held: usize,
     /// Rows that are kept of it, of each kind.
     pub lines: usize,
     /// DATA rows among them.
@@ -19,14 +21,15 @@ pub(crate) struct Size {
 }
 
 impl Size {
-    /// That of a checked file which has so many bytes, with those that rows in memory take.
-    pub(crate) fn of(file: &Checked<'_>, bytes: usize) -> Size
+    /// That of a checked file which has so many bytes, and of which rows that take so many are in memory.
+    pub(crate) fn of(file: &Checked<'_>, bytes: usize, held: usize) -> Size
         ensures { result.rows ≡ file.now.graph.rows }
     {
         let rows = file.graph().rows();
         let headers = file.scan().groups().len().saturating_mul(HEADER_ROWS);
         Size {
             bytes,
+            held,
             lines: headers.saturating_add(rows as usize),
             rows,
             steps: file.graph().steps().len(),
@@ -42,6 +45,8 @@ pub(crate) struct Totals {
     deposits: u64,
     /// Bytes of all bodies.
     bytes: u64,
+    /// Bytes of memory that rows of all deposits take, as long as the register is open.
+    held: u64,
     /// Rows of all deposits.
     lines: u64,
     /// Steps of all deposits.
@@ -57,6 +62,7 @@ impl Totals {
             dictionary: bytes as u64,
             deposits: 0,
             bytes: 0,
+            held: 0,
             lines: 0,
             steps: 0,
             check: 0,
@@ -70,6 +76,7 @@ impl Totals {
             dictionary: self.dictionary,
             deposits: self.deposits.saturating_add(1),
             bytes: self.bytes.saturating_add(size.bytes as u64),
+            held: self.held.saturating_add(size.held as u64),
             lines: self.lines.saturating_add(size.lines as u64),
             steps: self.steps.saturating_add(size.steps as u64),
             check: if check > self.check {
@@ -128,6 +135,7 @@ impl Room {
     fn next_start(&self) -> u64 {
         self.now
             .reckoned(&AT_A_START)
+            .saturating_add(self.now.held)
             .saturating_add(self.now.check)
     }
 

@@ -6,35 +6,35 @@ use Rattle.reg_store.specs.Keep.{is_store}
 use Rattle.reg_tables.proofs.CreatesLaws.{new_empty}
 use Rattle.reg_tables.specs.Tables.{no_schema}
 use Rattle.reg_tables.proofs.CreateLemmas.{making_left}
-use Rattle.reg_tables.proofs.QuietLaws.{survives_same}
+use Rattle.reg_tables.proofs.QuietLaws.{same_itself, survives_same}
 use Rattle.reg_tables.proofs.open.create.fill.Goals as goal
 
 pub returns-then-not-is_vacant-clause-left : goal.returns-then-not-is_vacant-clause-left
 returns-then-not-is_vacant-clause-left g c = survives_same (state g.S.Store c.args.conn.now)
 
 pub returns-then-not-is_vacant-clause-same : goal.returns-then-not-is_vacant-clause-same
-returns-then-not-is_vacant-clause-same g c = λ _ _. (refl, refl, refl)
+returns-then-not-is_vacant-clause-same g c = λ _ _. (refl, refl, same_itself (state g.S.Store c.args.conn.now))
 
 pub returns-then-not-is_vacant-clause-still : goal.returns-then-not-is_vacant-clause-still
-returns-then-not-is_vacant-clause-still g c = λ _ is_open. (is_open, refl, refl)
+returns-then-not-is_vacant-clause-still g c = λ _ is_open. (is_open, same_itself (state g.S.Store c.args.conn.now))
 
 pub returns-then-not-is_autocommit-clause-left : goal.returns-then-not-is_autocommit-clause-left
 returns-then-not-is_autocommit-clause-left g c = survives_same (state g.S.Store c.args.conn.now)
 
 pub returns-then-not-is_autocommit-clause-same : goal.returns-then-not-is_autocommit-clause-same
-returns-then-not-is_autocommit-clause-same g c = λ _ _. (refl, refl, refl)
+returns-then-not-is_autocommit-clause-same g c = λ _ _. (refl, refl, same_itself (state g.S.Store c.args.conn.now))
 
 pub returns-then-not-is_autocommit-clause-still : goal.returns-then-not-is_autocommit-clause-still
-returns-then-not-is_autocommit-clause-still g c = λ _ is_open. (is_open, refl, refl)
+returns-then-not-is_autocommit-clause-still g c = λ _ is_open. (is_open, same_itself (state g.S.Store c.args.conn.now))
 
 pub returns-then-is_err-clause-left : goal.returns-then-is_err-clause-left
 returns-then-is_err-clause-left g c = survives_same (state g.S.Store c.args.conn.now)
 
 pub returns-then-is_err-clause-same : goal.returns-then-is_err-clause-same
-returns-then-is_err-clause-same g c = λ _ _. (refl, refl, refl)
+returns-then-is_err-clause-same g c = λ _ _. (refl, refl, same_itself (state g.S.Store c.args.conn.now))
 
 pub returns-then-is_err-clause-still : goal.returns-then-is_err-clause-still
-returns-then-is_err-clause-still g c = λ _ is_open. (is_open, refl, refl)
+returns-then-is_err-clause-still g c = λ _ is_open. (is_open, same_itself (state g.S.Store c.args.conn.now))
 
 pub change_tables-requires-clause-settled : goal.change_tables-requires-clause-settled
 change_tables-requires-clause-settled g c clean is_open = sym (c.is_autocommit.ensures.settled (search rules) is_open)

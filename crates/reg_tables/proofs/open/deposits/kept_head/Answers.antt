@@ -1,7 +1,10 @@
-use Rattle.std.proofs.Common.{rules, ◌≡◌, true, false, ap, ◌∙◌, subst}
+use Rattle.std.specs.Prelude.{Option, IfSome}
+use Rattle.std.proofs.Common.{rules, ◌≡◌, true, false, ap, ◌∙◌, subst, sym}
 use Rattle.sqlite.specs.Held.{state}
 use Rattle.reg_store.specs.Keep.{sent_of}
 use Rattle.reg_tables.specs.Private.Digests.{IsNew, numbers_under, own_digest}
+use Rattle.reg_tables.specs.declared.memory.file.KnownFile.{KnownFile}
+use Rattle.reg_tables.specs.Private.Heads.{KnowsFile}
 use Rattle.reg_tables.specs.Whole.{HoldsBody, Tests}
 use Rattle.reg_tables.proofs.ExamineLemmas.{tests_empty, tests_some}
 use Rattle.reg_tables.proofs.open.deposits.kept_head.Goals as goal
@@ -30,3 +33,10 @@ returns-in-Ok-None-clause-quiet g c = c.in-Ok-None.ensures.quiet
 
 pub returns-in-Err-clause-quiet : goal.returns-in-Err-clause-quiet
 returns-in-Err-clause-quiet g c = c.in-Err.ensures.quiet
+
+pub returns-in-Ok-Some-clause-head : goal.returns-in-Ok-Some-clause-head
+returns-in-Ok-Some-clause-head g c =
+    let d = sent_of c.args.kept in
+    let its : c.digest_of-digest.result ≡ own_digest d = search rules in
+    let known : KnowsFile c.args.dictionary.now d c.in-Ok-Some.file = subst (λ (found : Option KnownFile). IfSome found (KnowsFile c.args.dictionary.now d)) c.in-Ok-Some.field-0-is c.in-Ok-Some.ensures.known in
+    (record { head = c.into_known.ensures.head; file = subst (KnowsFile c.args.dictionary.now d) (sym c.into_known.ensures.file) known }, its)

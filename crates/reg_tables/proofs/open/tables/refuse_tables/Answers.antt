@@ -1,4 +1,4 @@
-use Rattle.std.proofs.Common.{rules, ◌≡◌, ℤ, to_z, of_z, w64, Err, refl, subst}
+use Rattle.std.proofs.Common.{rules, ◌≡◌, ◌∙◌, sym, ℤ, to_z, of_z, w64, Err, refl, subst}
 use Rattle.sqlite.specs.Held.{state}
 use Rattle.sqlite.proofs.StateLemmas.{survives_then}
 use Rattle.reg_tables.specs.declared.error.AdoptError.TheVariants.{Version}
@@ -22,13 +22,13 @@ returns-in-Ok-clause-refused g c clean =
     refused_tables c.args.format (state g.S.Store c.args.conn.now).now rows c.requires.other (c.in-Ok.ensures.shown clean) (rw (same, c.number.ensures) at (c.in-None.ensures.none refl))
 
 pub returns-in-Some-clause-same : goal.returns-in-Some-clause-same
-returns-in-Some-clause-same g c clean well = let o = c.in-Ok.ensures.open clean in let it = c.read_meta_rows.ensures.same clean o in (both_open o it.0, it.1, it.2)
+returns-in-Some-clause-same g c clean well = let o = c.in-Ok.ensures.open clean in let it = c.read_meta_rows.ensures.same clean o in (both_open o it.0, c.read_meta_rows.ensures.mode ∙ sym c.requires.mode, it.1)
 
 pub returns-in-Some-clause-still : goal.returns-in-Some-clause-still
 returns-in-Some-clause-still g c = c.read_meta_rows.ensures.same
 
 pub returns-in-Ok-clause-same : goal.returns-in-Ok-clause-same
-returns-in-Ok-clause-same g c clean well = let o = c.in-Ok.ensures.open clean in let it = c.read_meta_rows.ensures.same clean o in (both_open o it.0, it.1, it.2)
+returns-in-Ok-clause-same g c clean well = let o = c.in-Ok.ensures.open clean in let it = c.read_meta_rows.ensures.same clean o in (both_open o it.0, c.read_meta_rows.ensures.mode ∙ sym c.requires.mode, it.1)
 
 pub returns-in-Ok-clause-still : goal.returns-in-Ok-clause-still
 returns-in-Ok-clause-still g c = c.read_meta_rows.ensures.same
@@ -41,7 +41,7 @@ returns-clause-same g c clean well =
     let old = state g.S.Store c.args.conn.now in
     let new = state g.S.Store c.refusal.new.conn in
     let quiet = fault_quiet old new c.refusal.result c.from.result c.from.ensures (refused_quiet old (state g.S.Store c.read_meta_rows.new.conn) new _ (c.refusal.ensures.mode c.read_meta_rows.ensures.mode) c.read_meta_rows.ensures.same c.read_meta_rows.ensures.crash c.refusal.ensures.known c.refusal.ensures.still c.refusal.ensures.crash) in
-    (quiet.is_open clean well, (quiet.same clean well).0, (quiet.same clean well).1)
+    (quiet.is_open clean well, quiet.idle ∙ sym c.requires.mode, quiet.same clean well)
 
 pub returns-clause-still : goal.returns-clause-still
 returns-clause-still g c = still_then (state g.S.Store c.args.conn.now) (state g.S.Store c.read_meta_rows.new.conn) (state g.S.Store c.refusal.new.conn) c.read_meta_rows.ensures.same c.refusal.ensures.still c.refusal.ensures.crash
