@@ -63,18 +63,19 @@ def parts(size):
 # ---- groups whose rows have different KEY headings of their parent group
 
 
-def of_subsets(size, rows, chosen_of, entries_of, parent_entries):
+def of_subsets(size, rows, chosen_of, entries_of, parent_entries, own_key=False):
     """Groups of so many rows, as many as fill half of the file, each with other KEY headings of the group above it,
-    which has as many rows as fill the rest."""
+    which has as many rows as fill the rest. With a KEY heading of its own each has the number of its row under it."""
     keys = [f"PARE_{place:X}" for place in range(KEYS)]
 
     def text(count):
         own, held = [["GROUP", "PARE", "", "", "-"]] + [["HEADING", "PARE", key, "KEY", ""] for key in keys], ""
         for n in range(count):
-            name, headings = name_of(n), chosen_of(keys, n)
+            name, chosen = name_of(n), chosen_of(keys, n)
+            headings = chosen + [f"{name}_ID"] * own_key
             own += [["GROUP", name, "", "", "PARE"]] + [["HEADING", name, key, "KEY", ""] for key in headings]
             held += group(name, headings, [""] * len(headings), ["X"] * len(headings),
-                          (entries_of(len(headings), row) for row in range(rows)))
+                          (entries_of(len(chosen), row) + [str(row)] * own_key for row in range(rows)))
         return own_dict(own) + held
 
     half = largest(size // 2, text, 20).decode()
@@ -124,6 +125,12 @@ def subsets_alike(size):
 def subsets_of_all(size):
     """Groups of two rows, to each of which all rows of the group above are parents."""
     return of_subsets(size, 2, any_keys, lambda count, row: ["1"] * count, lambda n: ["1"] * KEYS)
+
+
+def subsets_without_findings(size):
+    """As subsets_of_all, but each row has a key of its own: two rows a group, all rows of the group above are parents."""
+    return of_subsets(size, 2, lambda keys, n: any_keys(keys[:-1], n % 2047), lambda count, row: ["1"] * count,
+                      lambda n: ["1"] * (KEYS - 1) + [str(n)], own_key=True)
 
 
 def children(size):

@@ -186,14 +186,15 @@ const AT_A_START: Rates = Rates {
     step: 140,
 };
 
-/// What a process holds at least of a register that it opened. Of what it adds it holds next to nothing.
+/// What a process surely holds of a register that it opened. Of rows and steps it may hold nothing, and of what it adds
+/// next to nothing.
 const HELD: Rates = Rates {
     process: 13_000_000,
     dictionary_byte: 12,
-    deposit: 2_000,
+    deposit: 500,
     byte: 0,
     line: 0,
-    step: 60,
+    step: 0,
 };
 
 /// The bytes of memory that the check of a deposit takes at most, as long as it runs.
