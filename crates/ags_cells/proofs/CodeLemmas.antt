@@ -30,46 +30,21 @@ type_of-code : (code : List ℕ) (t : CellType) → IsRestrictedCode code t → 
 type_of-code code (DecimalPlaces n) w = rw w.1 (ap DecimalPlaces (number_of n))
 type_of-code code (SignificantFigures n) w = rw w.1 (ap SignificantFigures (number_of n))
 type_of-code code (Scientific n) w = rw w.1 (ap Scientific (number_of n))
-type_of-code code MoistureContent e = rw e
-type_of-code code YesNo e = rw e
-type_of-code code DegreesMinutesSeconds e = rw e
-type_of-code code DateTime e = rw e
-type_of-code code ElapsedTime e = rw e
 type_of-code code Any e = absurd e
+type_of-code code other e = rw e
 
 -- a type whose code is listed, and one of the same code
 listed_type : (code : List ℕ) (t u : CellType) → IsRestrictedCode code t → IsTypeCodeOf code u → t ≡ u
-listed_type code t (DecimalPlaces n) h w = sym (type_of-code code t h) ∙ type_of-code code (DecimalPlaces n) w
-listed_type code t (SignificantFigures n) h w = sym (type_of-code code t h) ∙ type_of-code code (SignificantFigures n) w
-listed_type code t (Scientific n) h w = sym (type_of-code code t h) ∙ type_of-code code (Scientific n) w
-listed_type code t MoistureContent h w = sym (type_of-code code t h) ∙ type_of-code code MoistureContent w
-listed_type code t YesNo h w = sym (type_of-code code t h) ∙ type_of-code code YesNo w
-listed_type code t DegreesMinutesSeconds h w = sym (type_of-code code t h) ∙ type_of-code code DegreesMinutesSeconds w
-listed_type code t DateTime h w = sym (type_of-code code t h) ∙ type_of-code code DateTime w
-listed_type code t ElapsedTime h w = sym (type_of-code code t h) ∙ type_of-code code ElapsedTime w
 listed_type code t Any h w = absurd (w t h)
+listed_type code t u h w = sym (type_of-code code t h) ∙ type_of-code code u w
 
 unlisted_type : (code : List ℕ) (u : CellType) → IsTypeCodeOf code Any → IsTypeCodeOf code u → Any ≡ u
-unlisted_type code (DecimalPlaces n) none w = absurd (none (DecimalPlaces n) w)
-unlisted_type code (SignificantFigures n) none w = absurd (none (SignificantFigures n) w)
-unlisted_type code (Scientific n) none w = absurd (none (Scientific n) w)
-unlisted_type code MoistureContent none w = absurd (none MoistureContent w)
-unlisted_type code YesNo none w = absurd (none YesNo w)
-unlisted_type code DegreesMinutesSeconds none w = absurd (none DegreesMinutesSeconds w)
-unlisted_type code DateTime none w = absurd (none DateTime w)
-unlisted_type code ElapsedTime none w = absurd (none ElapsedTime w)
 unlisted_type code Any none w = refl
+unlisted_type code u none w = absurd (none u w)
 
 pub one_type : OneType
-one_type code (DecimalPlaces n) u h w = listed_type code (DecimalPlaces n) u h w
-one_type code (SignificantFigures n) u h w = listed_type code (SignificantFigures n) u h w
-one_type code (Scientific n) u h w = listed_type code (Scientific n) u h w
-one_type code MoistureContent u h w = listed_type code MoistureContent u h w
-one_type code YesNo u h w = listed_type code YesNo u h w
-one_type code DegreesMinutesSeconds u h w = listed_type code DegreesMinutesSeconds u h w
-one_type code DateTime u h w = listed_type code DateTime u h w
-one_type code ElapsedTime u h w = listed_type code ElapsedTime u h w
 one_type code Any u h w = unlisted_type code u h w
+one_type code t u h w = listed_type code t u h w
 
 entry_under : (code unit text : List ℕ) (t : CellType) → IsTypeCodeOf code t → IsEntryOf t unit text → IsOfTypeCode code unit text
 entry_under code unit text t h fact =

@@ -123,7 +123,4 @@ day_complete a r (y, m, d, hy, date, split) stop =
     rw split (day_there y m d r hy sm sd ok)
 
 pub day : Strips after_day CalendarDay Anything
-day = record {
-  sound = day_sound;
-  complete = day_complete;
-}
+day = record { sound = day_sound; complete = day_complete }

@@ -1,5 +1,5 @@
 -- What the readers of digits, fractions, exponents and numbers take off a text.
-use Rattle.std.proofs.Common.{◌≡◌, ℕ, suc, ◌+◌, ◌-◌, ◌*◌, ◌/◌, ◌%◌, ◌<◌, ◌≤◌, Bool, true, false, cond, eqb, ◌&&◌, ◌||◌, nat_le, List, [], ◌∷◌, ◌++◌, length, take, drop, Option, Some, None, codes, refl, sym, ap, ◌∙◌, ◌⊎◌, inl, inr, append_assoc, append-nil, length-append, arith}
+use Rattle.std.proofs.Common.{◌≡◌, ℕ, ◌+◌, ◌-◌, ◌*◌, ◌/◌, ◌%◌, ◌<◌, ◌≤◌, Bool, true, false, cond, eqb, ◌&&◌, ◌||◌, nat_le, List, [], ◌∷◌, ◌++◌, length, take, drop, Option, Some, None, codes, refl, sym, ap, ◌∙◌, ◌⊎◌, inl, inr, append_assoc, append-nil, length-append, one-add, arith}
 use Rattle.std.proofs.lemmas.Bool.{and_parts}
 use Rattle.std.proofs.lemmas.Bool.Decides.{eqb_tells, leb_tells, nat_tests}
 use Rattle.std.proofs.lemmas.List.{length-take-le, take-append-drop}
@@ -46,9 +46,8 @@ count (c ∷ cs) r all stop =
 front_from : (c k : ℕ) (cs : List ℕ) (b : Bool) → is_ascii_digit c ≡ b → all_ascii_digits (take k cs) ≡ true
     → all_ascii_digits (take (cond b (1 + k) 0) (c ∷ cs)) ≡ true
 front_from c k cs true e h =
-    let next : 1 + k ≡ suc k = omega arith in
     let both : (is_ascii_digit c && all_ascii_digits (take k cs)) ≡ true = rw e h in
-    rw next both
+    rw one-add both
 front_from c k cs false e h = refl
 
 front_digits : (t : List ℕ) → all_ascii_digits (take (prefix_len is_ascii_digit t) t) ≡ true
@@ -211,9 +210,7 @@ two_cases a b cs r n true true da db e =
     let q : ℕ × List ℕ = (n, r) in
     let both : p ≡ q = cc in
     two_from a b n cs r (is_digit_tells a da) (is_digit_tells b db) (ap (λ z. z.0) both) (ap (λ z. z.1) both)
-two_cases a b cs r n true false da db e = cc
-two_cases a b cs r n false true da db e = cc
-two_cases a b cs r n false false da db e = cc
+two_cases a b cs r n x y da db e = cc
 
 pub two_sound : (t r : List ℕ) (n : ℕ) → read_two t ≡ Some (n, r) → (n < 100) × (t ≡ two_digits n ++ r)
 unfolding read_two
@@ -237,8 +234,7 @@ number_cases low high t r (Some (n, m)) e f = elim (leb_tells low n) [
   | inl x ↦ elim (leb_tells n high) [
     | inr y ↦ let g : None ≡ Some r = rw (x.0, y.0) at f in cc
     | inl y ↦ let g : Some m ≡ Some r = rw (x.0, y.0) at f in
-        let g2 : m ≡ r = cc in
-        (two_digits n, (two_sound t m n e).1 ∙ ap (λ z. two_digits n ++ z) g2, (n, x.1, y.1, refl))
+        (two_digits n, (two_sound t m n e).1 ∙ ap (λ z. two_digits n ++ z) cc, (n, x.1, y.1, refl))
   ]
 ]
 

@@ -28,24 +28,12 @@ unit_of t =
     (cond (bytes_eq t (codes "hh:mm")) Units.Minutes Units.Seconds)))))
 
 named : (t : List ℕ) (u : TimeUnit) → IsTimeUnit t u → unit_of t ≡ u
-named t Units.Year e = rw e
-named t Units.Month e = rw e
-named t Units.Day e = rw e
-named t Units.DayMinutes e = rw e
-named t Units.DaySeconds e = rw e
-named t Units.Minutes e = rw e
-named t Units.Seconds e = rw e
 named t Units.Other e = absurd e
+named t u e = rw e
 
 same_unit : (t : List ℕ) (u v : TimeUnit) → IsUnitOf t u → IsTimeUnit t v → u ≡ v
-same_unit t Units.Year v is h = sym (named t Units.Year is) ∙ named t v h
-same_unit t Units.Month v is h = sym (named t Units.Month is) ∙ named t v h
-same_unit t Units.Day v is h = sym (named t Units.Day is) ∙ named t v h
-same_unit t Units.DayMinutes v is h = sym (named t Units.DayMinutes is) ∙ named t v h
-same_unit t Units.DaySeconds v is h = sym (named t Units.DaySeconds is) ∙ named t v h
-same_unit t Units.Minutes v is h = sym (named t Units.Minutes is) ∙ named t v h
-same_unit t Units.Seconds v is h = sym (named t Units.Seconds is) ∙ named t v h
 same_unit t Units.Other v is h = absurd (is v h)
+same_unit t u v is h = sym (named t u is) ∙ named t v h
 
 -- the texts of a unit
 abbrev pub IsUnderUnit : (H : List ℕ → Type 0) → TimeUnit → List ℕ → Type 0

@@ -1,5 +1,5 @@
 -- Going over the columns of a group, and what is noted of each.
-use Rattle.std.proofs.Common.{◌≡◌, ◌≢◌, ℕ, ◌+◌, ◌<◌, ◌≤◌, List, [], ◌∷◌, length, get_or, map, refl, sym, ap, subst, ◌∙◌, arith}
+use Rattle.std.proofs.Common.{◌≡◌, ◌≢◌, ℕ, ◌+◌, ◌<◌, ◌≤◌, List, [], length, get_or, map, refl, sym, ap, subst, ◌∙◌, arith}
 use Rattle.std.specs.Prelude.{codes}
 use Rattle.std.proofs.lemmas.List.{length-map}
 use Rattle.ags_rows.specs.declared.code.Code.TheVariants.{Rule8, Rule15, Rule16, Rule17}
@@ -7,7 +7,8 @@ use Rattle.ags_rows.specs.declared.finding.Finding.{Finding}
 use Rattle.ags_rows.specs.Collecting.{At, Adds, Notes, AmongBefore, OneOf}
 use Rattle.ags_rows.specs.Contents.{Contents, group_contents, field_at, under}
 use Rattle.ags_rows.specs.declared.rows.Group.{Group}
-use Rattle.ags_rows.proofs.Lemmas.{at_from_read, at_map, among_more, among_all, one_more, two_rules}
+use Rattle.ags_rows.proofs.Lemmas.{at_from_read, at_map, among_more, among_all, two_rules}
+use Rattle.ags_check.proofs.Rules.{four_rules}
 use Rattle.ags_dict.specs.Entries.{required_of}
 use Rattle.ags_check.specs.declared.rows.columns.Column.{Column}
 use Rattle.ags_check.specs.Columns.{IsColumn, AreColumns, Outlined}
@@ -24,11 +25,7 @@ pub entry_noted : (file : List Contents) (line : ℕ) (h unit code text : List �
     → Adds (Notes line Rule8 h ((text ≢ []) × ¬ (FitsTypeCode code unit text))) f0 f1 → Adds (Notes line Rule15 h ((code ≡ codes "PU") × IsUnlistedUnit file text)) f1 f2
     → Adds (Notes line Rule16 h ((code ≡ codes "PA") × IsUnlistedAbbreviation file h text)) f2 f3 → Adds (Notes line Rule17 h ((code ≡ codes "PT") × IsUnlistedType file text)) f3 f4
     → Adds (OneOf (data_entry_rules file line h unit code text)) f0 f4
-entry_noted file line h unit code text f0 f1 f2 f3 f4 unfit units abbreviation type =
-    let types : List (Finding → Type 0) = Notes line Rule17 h ((code ≡ codes "PT") × IsUnlistedType file text) ∷ [] in
-    let abbreviations : List (Finding → Type 0) = Notes line Rule16 h ((code ≡ codes "PA") × IsUnlistedAbbreviation file h text) ∷ types in
-    one_more _ (Notes line Rule15 h ((code ≡ codes "PU") × IsUnlistedUnit file text) ∷ abbreviations) f0 f1 f4 unfit
-    (one_more _ abbreviations f1 f2 f4 units (two_rules f2 f3 f4 abbreviation type))
+entry_noted file line h unit code text f0 f1 f2 f3 f4 unfit units abbreviation type = four_rules f0 f1 f2 f3 f4 unfit units abbreviation type
 
 -- ---- columns and headings
 
@@ -43,14 +40,13 @@ heading_at headings columns i d heads lt =
 pub own_columns : (inside outline : Outlined) (columns kept : List Column) → inside ≡ outline → columns ≡ kept → AreColumns (group_contents inside.group) inside.group.headings kept
     → AreColumns (group_contents outline.group) outline.group.headings columns
 own_columns inside outline columns kept same is are =
-    subst (λ (v : Outlined). AreColumns (group_contents v.group) v.group.headings columns) same (subst (AreColumns (group_contents inside.group) inside.group.headings) (sym is) are)
+    rw (is, ← same) are
 
 -- the required columns that are read from an outline are those of the REQUIRED headings
 pub required_columns : (inside outline : Outlined) (columns kept : List Column) → inside ≡ outline → columns ≡ kept → AreColumns (group_contents inside.group) (required_of inside.entries inside.group.name) kept
     → AreColumns (group_contents outline.group) (required_of outline.entries outline.group.name) columns
 required_columns inside outline columns kept same is are =
-    subst (λ (v : Outlined). AreColumns (group_contents v.group) (required_of v.entries v.group.name) columns) same
-    (subst (AreColumns (group_contents inside.group) (required_of inside.entries inside.group.name)) (sym is) are)
+    rw (is, ← same) are
 
 -- one column more
 pub columns_more : (Rules : List ℕ → List (Finding → Type 0)) (headings : List (List ℕ)) (columns : List Column) (i : ℕ) (d : Column) (old mid new : List Finding)
@@ -93,10 +89,6 @@ pub header_more : (file : List Contents) (group : Group) (columns : List Column)
     → Adds (Notes group.type_line Rule17 (heading_of (get_or columns i d)) (IsUnlistedType file (get_or columns i d).code.now)) half new
     → Adds (AmongBefore group.headings (λ _ heading f. OneOf (unit_and_type_rules file group heading) f) (i + 1)) old new
 header_more file group columns i d old mid half new are lt before unit type =
-    let column = get_or columns i d in
-    let is : IsColumn (group_contents group) column = are.each i d lt in
-    let h = column.heading.now in
+    let is : IsColumn (group_contents group) (get_or columns i d) = are.each i d lt in
     columns_more (unit_and_type_rules file group) group.headings columns i d old mid new are.heads lt before
-    (two_rules mid half new
-    (subst (λ (u : List ℕ). Adds (Notes group.unit_line Rule15 h (IsUnlistedUnit file u)) mid half) is.unit unit)
-    (subst (λ (code : List ℕ). Adds (Notes group.type_line Rule17 h (IsUnlistedType file code)) half new) is.code type))
+    (two_rules mid half new (rw is.unit at unit) (rw is.code at type))

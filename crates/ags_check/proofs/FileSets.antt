@@ -1,6 +1,5 @@
 -- Rule 20: a file set is listed in FILE where a row of FILE has it.
-use Rattle.std.proofs.Common.{◌≡◌, ◌≢◌, ℕ, Bool, false, List, [], sym, ap, ◌∙◌}
-use Rattle.std.specs.Prelude.{◌↔◌, IsTrue, codes}
+use Rattle.std.proofs.Common.{◌≡◌, ◌≢◌, ℕ, Bool, false, List, [], sym, ap, ◌∙◌, ◌↔◌, IsTrue, codes}
 use Rattle.std.proofs.lemmas.Bool.{true≢false, false_from_ne_true}
 use Rattle.ags_rows.specs.Contents.{Contents}
 use Rattle.ags_text.specs.Names.{is_definition}

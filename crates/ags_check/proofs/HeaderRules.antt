@@ -1,7 +1,6 @@
 -- From what is noted of names to the rules of the HEADING row.
-use Rattle.std.proofs.Common.{◌≡◌, ℕ, Option, Some, None, List, refl, sym, ap, subst, inl, inr}
+use Rattle.std.proofs.Common.{◌≡◌, ℕ, Option, Some, None, List, refl, sym, ap, subst, inl, inr, true≢false}
 use Rattle.std.specs.Prelude.{Contains, IsSome, is_some}
-use Rattle.std.proofs.lemmas.Bool.{true≢false}
 use Rattle.ags_rows.specs.declared.code.Code.{Code}
 use Rattle.ags_rows.specs.declared.finding.Finding.{Finding}
 use Rattle.ags_rows.specs.declared.rows.Group.{Group}
@@ -19,8 +18,7 @@ use Rattle.ags_check.proofs.Naming.{at_heading}
 
 -- a place has the name
 pub has_place : (names : List (List ℕ)) (name : List ℕ) (i : ℕ) → place_in names name ≡ Some i → Contains names name
-has_place names name i e =
-    let h = at_place names name i e in (i, h.0, h.1)
+has_place names name i e = let h = at_place names name i e in (i, h.0, h.1)
 
 pub unplaced : (names : List (List ℕ)) (name : List ℕ) → (Contains names name → ⊥) → place_in names name ≡ None
 unplaced names name absent = elim (place_of (place_in names name)) [
@@ -35,7 +33,7 @@ OnlyIn this that name = Contains this name × ¬ (Contains that name)
 -- ---- the rules
 
 -- what is noted of the names of one list that are not in another
-only_in : (group : Group) (code : Code) (names listed that : List (List ℕ)) (old new : List Finding) → names ≡ listed
+pub only_in : (group : Group) (code : Code) (names listed that : List (List ℕ)) (old new : List Finding) → names ≡ listed
     → Adds (AtNames group.heading_line code names (λ _ name. place_in that name ≡ None)) old new → Adds (AtHeading code (OnlyIn listed that) group) old new
 only_in group code names listed that old new same x =
     at_heading names group code (λ _ name. place_in that name ≡ None) (OnlyIn listed that) old new
@@ -44,11 +42,6 @@ only_in group code names listed that old new same x =
     let h = subst (λ (l : List (List ℕ)). Contains l name) (sym same) rule.0 in
     (h.0, at_contained names name h, unplaced that name rule.1))
     x
-
-pub unknown_rule : (entries : Entries) (group : Group) (code : Code) (names : List (List ℕ)) (old new : List Finding) → names ≡ group.headings
-    → Adds (AtNames group.heading_line code names (λ _ name. place_in (order_of entries group.name) name ≡ None)) old new
-    → Adds (AtHeading code (OnlyIn group.headings (order_of entries group.name)) group) old new
-unknown_rule entries group code names old new same x = only_in group code names group.headings (order_of entries group.name) old new same x
 
 pub misplaced_rule : (entries : Entries) (group : Group) (code : Code) (names : List (List ℕ)) (old new : List Finding) → names ≡ group.headings
     → Adds (AtNames group.heading_line code names (IsOvertaken (order_of entries group.name) names)) old new
@@ -65,11 +58,6 @@ misplaced_rule entries group code names old new same x =
     let other_stands = subst (λ (l : List (List ℕ)). At l rule.1 rule.2) (sym same) rule.4 in
     (rule.0, stands, (rule.1, rule.2, rule.5, other_stands, rule.6)))
     x
-
--- a heading of the list that is not in the row
-pub lacking_rule : (group : Group) (code : Code) (names listed : List (List ℕ)) (old new : List Finding) → names ≡ listed
-    → Adds (AtNames group.heading_line code names (λ _ name. place_in group.headings name ≡ None)) old new → Adds (AtHeading code (OnlyIn listed group.headings) group) old new
-lacking_rule group code names listed old new same x = only_in group code names listed group.headings old new same x
 
 pub some_there : {X : Type 0} (o : Option X) → IsSome o → (x : X) × (o ≡ Some x)
 some_there None h = absurd (true≢false (sym h))
@@ -96,11 +84,6 @@ misnamed_rule given entries group code names old new same x =
     let h = subst (λ (l : List (List ℕ)). Contains l name) (sym same) rule.0 in (
       h.0,
       at_contained names name h,
-      record {
-        known = has_some order name rule.1.0;
-        own = unplaced given_order name rule.1.1;
-        other_name = rule.2;
-        nowhere_else = rule.3;
-      },
+      record { known = has_some order name rule.1.0; own = unplaced given_order name rule.1.1; other_name = rule.2; nowhere_else = rule.3 },
     ))
     x

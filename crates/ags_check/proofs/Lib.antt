@@ -1,3 +1,4 @@
+pub mod Rules
 pub mod Naming
 pub mod Fronts
 pub mod Ranks

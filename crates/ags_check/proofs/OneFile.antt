@@ -19,7 +19,5 @@ pub one_clean_file : OneCleanFile
 one_clean_file a b x y given bytes =
     let groups = one_grouping a.bytes a.groups b.groups x.groups (subst (λ (all : List ℕ). FileGroups all b.groups) (sym bytes) y.groups) in
     let entries : a.entries ≡ b.entries = clean_entries a x ∙ ap (λ (g : Entries). extended g (contents_of a.groups)) given ∙ ap (λ (g : List Group). extended b.given (contents_of g)) groups ∙ sym (clean_entries b y) in
-    let there : IsGraphOf (file_of a) b.graph =
-    subst (λ (g : List Group). IsGraphOf (record { contents = contents_of g; entries = a.entries }) b.graph) (sym groups)
-    (subst (λ (e : Entries). IsGraphOf (record { contents = contents_of b.groups; entries = e }) b.graph) (sym entries) y.graph) in
+    let there : IsGraphOf (file_of a) b.graph = rw (groups, entries) y.graph in
     one_checked a b given bytes groups entries (one_graph (file_of a) a.graph b.graph x.graph there)

@@ -9,10 +9,10 @@ use Rattle.ags_rows.specs.declared.rows.Group.{Group}
 use Rattle.ags_rows.specs.declared.rows.Row.{Row}
 use Rattle.ags_rows.specs.Collecting.{At, Adds, Notes, OneOf}
 use Rattle.ags_rows.specs.Contents.{Contents, group_contents, fields_of}
-use Rattle.ags_rows.proofs.Lemmas.{one_more, three_rules}
+use Rattle.ags_check.proofs.Rules.{six_rules}
 use Rattle.ags_dict.specs.Entries.{Entries, keys_of, parent_of, required_of}
 use Rattle.ags_links.specs.DataRows.{DataRow, RowsRelate, row_in, entry_of, data_rows}
-use Rattle.ags_links.specs.Keys.{IsFirstOfKey, HasKeyOf}
+use Rattle.ags_links.specs.Keys.{IsFirstOfKey}
 use Rattle.ags_links.specs.Parents.{IsParentRow}
 use Rattle.ags_check.specs.RowRules.{IsBrokenLink, RepeatsKey, LacksParentRow, IsUnlistedFileSet, data_row_rules}
 use Rattle.ags_check.specs.Placing.{InSome}
@@ -32,7 +32,7 @@ pub repeats_means : (entries : Entries) (file : List Contents) (number first : �
     → IsFirstOfKey (data_rows file) entries number first → IsTrue (ltb first number) ↔ RepeatsKey entries file number row
 repeats_means entries file number first row keyed at is_first = (
   λ e. (
-      let equal = subst (λ (r : DataRow). HasKeyOf entries r is_first.0.1) (same_row (data_rows file) number is_first.0.0 row is_first.0.2 at) is_first.0.4 in
+      let equal = rw (same_row (data_rows file) number is_first.0.0 row is_first.0.2 at) at is_first.0.4 in
       (keyed, (first, is_first.0.1, ltb-true first number e, is_first.0.3, equal))
       ),
   λ rule.
@@ -65,12 +65,4 @@ pub row_noted : (entries : Entries) (file : List Contents) (group : Group) (numb
     → Adds (Notes row.line Rule20 (codes "FILE_FSET") (IsUnlistedFileSet file (row_in (group_contents group) (fields_of row)))) f5 f6
     → Adds (OneOf (data_row_rules entries file group number row)) f0 f6
 row_noted entries file group number row f0 f1 f2 f3 f4 f5 f6 entry key need parent link set =
-    let r : DataRow = row_in (group_contents group) (fields_of row) in
-    let sets : List (Finding → Type 0) = Notes row.line Rule20 (codes "FILE_FSET") (IsUnlistedFileSet file r) ∷ [] in
-    let links : List (Finding → Type 0) = InSome group.headings (λ heading. Notes row.line Rule11c heading (IsBrokenLink entries file r heading) ∷ []) ∷ sets in
-    let parents : List (Finding → Type 0) = Notes row.line Rule10c group.name (LacksParentRow entries file r) ∷ links in
-    let required : List (Finding → Type 0) = InSome (required_of entries group.name) (λ heading. Notes row.line Rule10b heading (entry_of r heading ≡ []) ∷ []) ∷ parents in
-    let keys : List (Finding → Type 0) = Notes row.line Rule10a group.name (RepeatsKey entries file number r) ∷ required in
-    one_more _ keys f0 f1 f6 entry
-    (one_more _ required f1 f2 f6 key
-    (one_more _ parents f2 f3 f6 need (three_rules f3 f4 f5 f6 parent link set)))
+    six_rules f0 f1 f2 f3 f4 f5 f6 entry key need parent link set

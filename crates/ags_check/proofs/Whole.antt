@@ -1,5 +1,5 @@
 -- From the findings of the phases to the findings of a file.
-use Rattle.std.proofs.Common.{◌≡◌, ℕ, List, [], ◌++◌, length, take, refl, subst, sym, ap, ◌∙◌, inr, Result, Ok, Err}
+use Rattle.std.proofs.Common.{◌≡◌, ℕ, List, [], ◌++◌, length, take, refl, subst, sym, ap, ◌∙◌, inr, Result, Ok}
 use Rattle.std.specs.Prelude.{IfOk, OnOk}
 use Rattle.std.proofs.Math.Seq.{take-append_seam}
 use Rattle.std.proofs.lemmas.Result.{on_ok_weaker}
@@ -23,31 +23,19 @@ use Rattle.ags_links.specs.Walks.{StepGraph}
 pub groups_found : (given entries : Entries) (bytes : List ℕ) (groups : List Group) (found : List Finding) → FileGroups bytes groups → entries ≡ extended given (contents_of groups)
     → FirstFound (dictionary_phases given entries groups) found → Findings given bytes found
 groups_found given entries bytes groups found read same first =
-    let of_groups : FirstFound (dictionary_phases given (extended given (contents_of groups)) groups) found = subst (λ (e : Entries). FirstFound (dictionary_phases given e groups) found) same first in
-    let of_file : FirstFound (dictionary_phases given (extended given (contents_of read.0.groups)) read.0.groups) found =
-    subst (λ (gs : List Group). FirstFound (dictionary_phases given (extended given (contents_of gs)) gs) found) (sym read.4) of_groups in
-    (read.0, read.1, found_late (phases read.0) (dictionary_phases given (extended given (contents_of read.0.groups)) read.0.groups) found read.2 of_file)
-
--- where a result says that they break nothing, there are no findings
-pub clear_groups : {T E : Type 0} (result : Result T E) (given entries : Entries) (bytes : List ℕ) (groups : List Group) → FileGroups bytes groups → entries ≡ extended given (contents_of groups)
-    → OnOk result (IsClear (StandsInDictionary given entries groups)) → OnOk result (IsClear (StandsInEntries entries groups)) → OnOk result (Findings given bytes [])
-clear_groups (Ok x) given entries bytes groups read same clear clear_rows = groups_found given entries bytes groups [] read same (inr (clear, inr (clear_rows, refl)))
-clear_groups (Err e) given entries bytes groups read same clear clear_rows = tt
+    let file = read.0 in
+    let later : List Group → List (Finding → Type 0) = λ gs. dictionary_phases given (extended given (contents_of gs)) gs in
+    let of_file = subst (λ (gs : List Group). FirstFound (later gs) found) (sym read.4) (subst (λ (e : Entries). FirstFound (dictionary_phases given e groups) found) same first) in
+    (file, read.1, found_late (phases file) (later file.groups) found read.2 of_file)
 
 -- where neither the headers nor the rows break anything, the file is clean
 pub clean : (given entries : Entries) (bytes : List ℕ) (groups : List Group) (graph : StepGraph) → FileGroups bytes groups → entries ≡ extended given (contents_of groups)
     → IsClear (StandsInDictionary given entries groups) → IsClear (StandsInEntries entries groups) → IsGraphOf (record { contents = contents_of groups; entries = entries }) graph
     → IsClean (record { given = given; bytes = bytes; groups = groups; entries = entries; graph = graph })
-clean given entries bytes groups graph read same clear clear_rows steps = record {
-  groups = read;
-  file = record {
-    groups = groups;
-    read = read;
-    same = ap (λ (e : Entries). record { contents = contents_of groups; entries = e }) same;
-    findings = groups_found given entries bytes groups [] read same (inr (clear, inr (clear_rows, refl)));
-  };
-  graph = steps;
-}
+clean given entries bytes groups graph read same clear clear_rows steps =
+    let entries_are = ap (λ (e : Entries). record { contents = contents_of groups; entries = e }) same in
+    let none = groups_found given entries bytes groups [] read same (inr (clear, inr (clear_rows, refl))) in
+    record { groups = read; file = record { groups = groups; read = read; same = entries_are; findings = none }; graph = steps }
 
 -- ---- the entries given
 

@@ -34,8 +34,8 @@ pub restated : {X : Type 0} (same : X → X → Bool) (old : List X) (x : X) →
 restated same old x h = rw h (sym (append-nil old))
 
 -- one item that it does not have
-pub fresh : {X : Type 0} (same : X → X → Bool) (old : List X) (x : X) → list_any (same x) old ≡ false → old ++ x ∷ [] ≡ with_new same old (x ∷ [])
-fresh same old x h = rw h refl
+pub fresh : {X : Type 0} (same : X → X → Bool) (shared own next old : List X) (x : X) → list_any (same x) old ≡ false → next ≡ own ++ x ∷ [] → shared ++ own ≡ old → shared ++ next ≡ with_new same old (x ∷ [])
+fresh same shared own next old x h e view = rw (h, e, ← view) (sym (append_assoc shared own (x ∷ [])))
 
 -- the items that all elements of a list give
 pub with_new_all : {X Y : Type 0} (same : X → X → Bool) (f : Y → List X) (ys : List Y) (i : ℕ) (old a : List X) → length ys ≤ i → a ≡ with_new same old (flat_map f (take i ys)) → a ≡ with_new same old (flat_map f ys)

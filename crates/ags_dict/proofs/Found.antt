@@ -23,19 +23,13 @@ kept : {X : Type 0} (xs ys es : List X) (places : List ℕ) → map (slice_get x
 kept xs ys es [] h = h
 kept xs ys [] (p ∷ places) h = absurd (cc)
 kept xs ys (e ∷ es) (p ∷ places) h =
-    let here : slice_get xs p ≡ Some e = cc in
-    let others : map (slice_get xs) places ≡ map Some es = cc in
-    rw (get_append xs ys p e here, kept xs ys es places others) refl
-
-map_push : {X Y : Type 0} (f : X → Y) (xs : List X) (y : X) → map f (xs ++ y ∷ []) ≡ map f xs ++ f y ∷ []
-map_push f [] y = refl
-map_push f (x ∷ xs) y = rw (map_push f xs y) refl
+    rw (get_append xs ys p e cc, kept xs ys es places cc) refl
 
 -- one more item
 pub places_push : {X : Type 0} (test : X → Bool) (xs : List X) (y : X) (places : List ℕ) → ArePlaces test xs places
     → ArePlaces test (xs ++ y ∷ []) (cond (test y) (places ++ length xs ∷ []) places)
 places_push test xs y places h = elim (cases_Bool (test y)) [
-  | inl t ↦ rw (t, filter-append test xs (y ∷ []), t, map_push (slice_get (xs ++ y ∷ [])) places (length xs), map_push Some (filter test xs) y, get_pushed xs y, kept xs (y ∷ []) (filter test xs) places h) refl
+  | inl t ↦ rw (t, filter-append test xs (y ∷ []), t, map-append (slice_get (xs ++ y ∷ [])) places (length xs ∷ []), map-append Some (filter test xs) (y ∷ []), get_pushed xs y, kept xs (y ∷ []) (filter test xs) places h) refl
   | inr f ↦ rw (f, filter-append test xs (y ∷ []), f, append-nil (filter test xs)) (kept xs (y ∷ []) (filter test xs) places h)
 ]
 
@@ -50,10 +44,9 @@ noted test xs pushed x old new name place same at more notes h text =
 -- the k-th place leads to the k-th item that passes
 get_places : {X : Type 0} (xs es : List X) (places : List ℕ) (k : ℕ) → map (slice_get xs) places ≡ map Some es → option_and_then (slice_get xs) (slice_get places k) ≡ slice_get es k
 get_places xs [] [] k h = refl
-get_places xs (e ∷ es) [] k h = absurd (cc)
-get_places xs [] (p ∷ places) k h = absurd (cc)
 get_places xs (e ∷ es) (p ∷ places) zero h = cc
-get_places xs (e ∷ es) (p ∷ places) (suc k) h = let others : map (slice_get xs) places ≡ map Some es = cc in get_places xs es places k others
+get_places xs (e ∷ es) (p ∷ places) (suc k) h = get_places xs es places k cc
+get_places xs es places k h = absurd cc
 
 pub place_leads : {X : Type 0} (test : X → Bool) (xs : List X) (places : List ℕ) (k : ℕ) → ArePlaces test xs places
     → option_and_then (slice_get xs) (slice_get places k) ≡ slice_get (filter test xs) k
@@ -62,28 +55,20 @@ place_leads test xs places k h = get_places xs (filter test xs) places k h
 pub places_length : {X : Type 0} (test : X → Bool) (xs : List X) (places : List ℕ) → ArePlaces test xs places → length places ≡ length (filter test xs)
 places_length test xs places h = sym (length-map places (slice_get xs)) ∙ ap length h ∙ length-map (filter test xs) Some
 
-any_places : {X : Type 0} (wanted : X → Bool) (xs es : List X) (places : List ℕ) → map (slice_get xs) places ≡ map Some es
-    → list_any (λ p. option_map_or wanted (slice_get xs p) false) places ≡ list_any wanted es
-any_places wanted xs [] [] h = refl
-any_places wanted xs (e ∷ es) [] h = absurd (cc)
-any_places wanted xs [] (p ∷ places) h = absurd (cc)
-any_places wanted xs (e ∷ es) (p ∷ places) h =
-    let here : slice_get xs p ≡ Some e = cc in
-    let others : map (slice_get xs) places ≡ map Some es = cc in
-    rw (here, any_places wanted xs es places others) refl
+pub any_map : {X Y : Type 0} (seen : X → Y) (test : Y → Bool) (xs : List X) → list_any test (map seen xs) ≡ list_any (λ x. test (seen x)) xs
+any_map seen test [] = refl
+any_map seen test (x ∷ xs) = rw (any_map seen test xs) refl
 
 pub place_any : {X : Type 0} (wanted test : X → Bool) (xs : List X) (places : List ℕ) → ArePlaces test xs places
     → list_any (λ p. option_map_or wanted (slice_get xs p) false) places ≡ list_any wanted (filter test xs)
-place_any wanted test xs places h = any_places wanted xs (filter test xs) places h
+place_any {X} wanted test xs places h =
+    let passes = λ (o : Option X). option_map_or wanted o false in
+    sym (any_map (slice_get xs) passes places) ∙ ap (list_any passes) h ∙ any_map Some passes (filter test xs)
 
 map_places : {X : Type 0} (xs es : List X) (places : List ℕ) → map (slice_get xs) places ≡ map Some es → filter_map (slice_get xs) places ≡ es
 map_places xs [] [] h = refl
-map_places xs (e ∷ es) [] h = absurd (cc)
-map_places xs [] (p ∷ places) h = absurd (cc)
-map_places xs (e ∷ es) (p ∷ places) h =
-    let here : slice_get xs p ≡ Some e = cc in
-    let others : map (slice_get xs) places ≡ map Some es = cc in
-    rw (here, map_places xs es places others) refl
+map_places xs (e ∷ es) (p ∷ places) h = let here : slice_get xs p ≡ Some e = cc in rw (here, map_places xs es places cc) refl
+map_places xs es places h = absurd cc
 
 pub place_all : {X : Type 0} (test : X → Bool) (xs : List X) (places : List ℕ) → ArePlaces test xs places → filter_map (slice_get xs) places ≡ filter test xs
 place_all test xs places h = map_places xs (filter test xs) places h
@@ -135,10 +120,6 @@ leads_more {X} xs places i found r lt at before =
 
 -- ---- a loop that tests what is seen of each item
 
-pub any_map : {X Y : Type 0} (seen : X → Y) (test : Y → Bool) (xs : List X) → list_any test (map seen xs) ≡ list_any (λ x. test (seen x)) xs
-any_map seen test [] = refl
-any_map seen test (x ∷ xs) = rw (any_map seen test xs) refl
-
 -- one more, which fails
 pub seen_more : {X Y : Type 0} (seen : X → Y) (test : Y → Bool) (xs : List X) (i : ℕ) (x : X) → i < length xs → x ≡ get_or xs i x → test (seen x) ≡ false
     → list_any test (map seen (take i xs)) ≡ false → list_any test (map seen (take (i + 1) xs)) ≡ false
@@ -150,8 +131,7 @@ seen_more seen test xs i x lt is fails before =
 pub seen_at : {X Y : Type 0} (seen : X → Y) (test : Y → Bool) (xs : List X) (i : ℕ) (x : X) → i < length xs → x ≡ get_or xs i x → test (seen x) ≡ true
     → list_any test (map seen xs) ≡ true
 seen_at seen test xs i x lt is passes =
-    let here : test (seen (get_or xs i x)) ≡ true = rw (← is) passes in
-    any_map seen test xs ∙ list_any_at (λ y. test (seen y)) xs i x lt here
+    any_map seen test xs ∙ list_any_at (λ y. test (seen y)) xs i x lt (rw (← is) passes)
 
 -- all of them
 pub seen_all : {X Y : Type 0} (seen : X → Y) (test : Y → Bool) (xs : List X) (i : ℕ) → length xs ≤ i → list_any test (map seen (take i xs)) ≡ false → list_any test (map seen xs) ≡ false

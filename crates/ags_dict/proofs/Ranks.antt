@@ -1,9 +1,10 @@
 -- The place of a heading in a group's order.
-use Rattle.std.proofs.Common.{◌≡◌, ℕ, ◌+◌, ◌<◌, ◌≤◌, Bool, false, cond, not, eqb, ltb, List, [], ◌∷◌, ◌++◌, length, map, Option, Some, None, position, slice_get, refl, sym, ap, ◌∙◌, inl, inr, arith, add-zero, ◌&&◌}
+use Rattle.std.proofs.Common.{◌≡◌, ℕ, ◌+◌, ◌≤◌, Bool, true, false, cond, not, eqb, ltb, List, [], ◌∷◌, ◌++◌, length, map, Option, Some, None, position, slice_get, refl, sym, ap, ◌∙◌, inl, inr, arith, ◌&&◌}
 use Rattle.std.specs.List.{filter, list_any, position_or_len}
 use Rattle.std.specs.Option.{option_map, option_or, is_some}
 use Rattle.std.specs.Str.{bytes_eq}
-use Rattle.std.proofs.lemmas.Bool.{cases_Bool, cases_lt, lt-ltb, le-ltb, ne_eqb, eq-eqb}
+use Rattle.std.proofs.lemmas.Bool.{cases_Bool, lt-ltb, le-ltb}
+use Rattle.std.proofs.lemmas.Bool.Decides.{nat_tests}
 use Rattle.std.proofs.lemmas.List.{length-map, length-append, map-append, append-nil}
 use Rattle.std.proofs.lemmas.List.Elements.{filter-append}
 use Rattle.std.proofs.lemmas.List.Sums.{prefix_len-le-length}
@@ -37,68 +38,42 @@ rank_any entries heading =
 abbrev at : ℕ → ℕ → Option ℕ
 at n m = cond (ltb n m) (Some n) None
 
-at_lt : (n m : ℕ) → n < m → at n m ≡ Some n
-at_lt n m lt = rw (lt-ltb n m lt) refl
-
-at_le : (n m : ℕ) → m ≤ n → at n m ≡ None
-at_le n m le = rw (le-ltb n m le) refl
+-- the place of the first of a list that passes, or of the next item
+pushed_at : (n m : ℕ) (t : Bool) → n ≤ m → at (cond (eqb n m) (m + cond t 0 1) n) (m + 1) ≡ option_or (at n m) (cond t (Some m) None)
+pushed_at n m t le = grind (arith, nat_tests)
 
 position_push : {X : Type 0} (p : X → Bool) (xs : List X) (y : X) → position p (xs ++ y ∷ []) ≡ option_or (position p xs) (cond (p y) (Some (length xs)) None)
 position_push p xs y =
     let n = position_or_len p xs in
     let m = length xs in
-    let longer : length (xs ++ y ∷ []) ≡ m + 1 = length-append xs (y ∷ []) in
-    let here : position_or_len p (xs ++ y ∷ []) ≡ cond (eqb n m) (m + cond (p y) 0 1) n = position_or_len_push p xs y in
-    let is : position p (xs ++ y ∷ []) ≡ at (cond (eqb n m) (m + cond (p y) 0 1) n) (m + 1) =
-    ap (λ (k : ℕ). at k (length (xs ++ y ∷ []))) here ∙ ap (λ (k : ℕ). at (cond (eqb n m) (m + cond (p y) 0 1) n) k) longer in
-    elim (cases_lt n m) [
-      | inl lt ↦
-          let apart : eqb n m ≡ false = ne_eqb n m (λ e. omega (arith, lt, e)) in
-          is ∙ ap (λ (b : Bool). at (cond b (m + cond (p y) 0 1) n) (m + 1)) apart ∙ at_lt n (m + 1) (omega (arith, lt))
-          ∙ sym (ap (λ (o : Option ℕ). option_or o (cond (p y) (Some m) None)) (at_lt n m lt))
-      | inr le ↦
-          let same : n ≡ m = let most : n ≤ m = prefix_len-le-length (λ x. not (p x)) xs in omega (arith, le, most) in
-          let none : option_or (position p xs) (cond (p y) (Some m) None) ≡ cond (p y) (Some m) None = ap (λ (o : Option ℕ). option_or o (cond (p y) (Some m) None)) (at_le n m le) in
-          let all : position p (xs ++ y ∷ []) ≡ at (m + cond (p y) 0 1) (m + 1) = is ∙ ap (λ (b : Bool). at (cond b (m + cond (p y) 0 1) n) (m + 1)) (eq-eqb n m same) in
-          elim (cases_Bool (p y)) [
-            | inl t ↦ all ∙ ap (λ (b : Bool). at (m + cond b 0 1) (m + 1)) t ∙ rw add-zero (at_lt m (m + 1) (omega arith)) ∙ sym (none ∙ ap (λ (b : Bool). cond b (Some m) None) t)
-            | inr f ↦ all ∙ ap (λ (b : Bool). at (m + cond b 0 1) (m + 1)) f ∙ at_le (m + 1) (m + 1) (omega arith) ∙ sym (none ∙ ap (λ (b : Bool). cond b (Some m) None) f)
-          ]
-    ]
+    ap (λ (k : ℕ). at k (length (xs ++ y ∷ []))) (position_or_len_push p xs y) ∙ ap (at (cond (eqb n m) (m + cond (p y) 0 1) n)) (length-append xs (y ∷ []))
+    ∙ pushed_at n m (p y) (prefix_len-le-length (λ x. not (p x)) xs)
 
--- the first that passes, in a list that others follow
+position_append : {X : Type 0} (p : X → Bool) (xs ys : List X)
+    → position p (xs ++ ys) ≡ at (cond (eqb (position_or_len p xs) (length xs)) (length xs + position_or_len p ys) (position_or_len p xs)) (length xs + length ys)
+position_append p xs ys =
+    let n = cond (eqb (position_or_len p xs) (length xs)) (length xs + position_or_len p ys) (position_or_len p xs) in
+    ap (λ (i : ℕ). at i (length (xs ++ ys))) (prefix_len-append (λ x. not (p x)) xs ys) ∙ ap (at n) (length-append xs ys)
+
+first_at : (n m j l k : ℕ) → n ≤ m → at n m ≡ Some k → at (cond (eqb n m) (m + j) n) (m + l) ≡ Some k
+first_at n m j l k le h = grind (arith, nat_tests, h)
+
+-- the first that passes, of a list that has one
 position_first : {X : Type 0} (p : X → Bool) (xs ys : List X) (k : ℕ) → position p xs ≡ Some k → position p (xs ++ ys) ≡ Some k
-position_first p xs ys k h =
-    let n = position_or_len p xs in
-    let m = length xs in
-    let all : length (xs ++ ys) ≡ m + length ys = length-append xs ys in
-    elim (cases_lt n m) [
-      | inl lt ↦
-          let apart : eqb n m ≡ false = ne_eqb n m (λ e. omega (arith, lt, e)) in
-          let here : position_or_len p (xs ++ ys) ≡ n = prefix_len-append (λ x. not (p x)) xs ys ∙ ap (λ (b : Bool). cond b (m + position_or_len p ys) n) apart in
-          ap (λ (i : ℕ). at i (length (xs ++ ys))) here ∙ at_lt n (length (xs ++ ys)) (omega (arith, lt, all)) ∙ sym (at_lt n m lt) ∙ h
-      | inr le ↦ let none : position p xs ≡ None = at_le n m le in absurd (cc)
-    ]
+position_first p xs ys k h = position_append p xs ys ∙ first_at _ _ _ _ k (prefix_len-le-length (λ x. not (p x)) xs) h
+
+after_at : (n m j l : ℕ) → n ≤ m → at n m ≡ None → at (cond (eqb n m) (m + j) n) (m + l) ≡ cond (ltb j l) (Some (m + j)) None
+after_at n m j l le h = grind (arith, nat_tests, h)
+
+moved : (m j : ℕ) (t : Bool) → cond t (Some (m + j)) None ≡ option_map (λ k. m + k) (cond t (Some j) None)
+moved m j true = refl
+moved m j false = refl
 
 -- the first that passes, after a list of which none does
 position_after : {X : Type 0} (p : X → Bool) (xs ys : List X) → position p xs ≡ None → position p (xs ++ ys) ≡ option_map (λ k. length xs + k) (position p ys)
 position_after p xs ys h =
-    let n = position_or_len p xs in
-    let m = length xs in
     let j = position_or_len p ys in
-    let l = length ys in
-    let all : length (xs ++ ys) ≡ m + l = length-append xs ys in
-    elim (cases_lt n m) [
-      | inl lt ↦ let some : position p xs ≡ Some n = at_lt n m lt in absurd (cc)
-      | inr le ↦
-          let same : n ≡ m = let most : n ≤ m = prefix_len-le-length (λ x. not (p x)) xs in omega (arith, le, most) in
-          let here : position_or_len p (xs ++ ys) ≡ m + j = prefix_len-append (λ x. not (p x)) xs ys ∙ ap (λ (b : Bool). cond b (m + j) n) (eq-eqb n m same) in
-          let is : position p (xs ++ ys) ≡ at (m + j) (m + l) = ap (λ (i : ℕ). at i (length (xs ++ ys))) here ∙ ap (λ (i : ℕ). at (m + j) i) all in
-          elim (cases_lt j l) [
-            | inl lt ↦ is ∙ at_lt (m + j) (m + l) (omega (arith, lt)) ∙ sym (ap (option_map (λ k. m + k)) (at_lt j l lt))
-            | inr past ↦ is ∙ at_le (m + j) (m + l) (omega (arith, past)) ∙ sym (ap (option_map (λ k. m + k)) (at_le j l past))
-          ]
-    ]
+    position_append p xs ys ∙ after_at _ _ j (length ys) (prefix_len-le-length (λ x. not (p x)) xs) h ∙ moved (length xs) j (ltb j (length ys))
 
 -- the headings of a group in entries, in their order
 abbrev pub order_in : List ℕ → List HeadingEntry → List (List ℕ)

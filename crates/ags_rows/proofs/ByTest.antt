@@ -1,24 +1,21 @@
 -- Contents are well formed where tests that compute say so.
 use Rattle.std.proofs.Common.{◌≡◌, ◌≢◌, ℕ, true, false, Bool, List, [], ◌∷◌, length}
-use Rattle.std.specs.Prelude.{nat_lt, nat_eq, not, ◌&&◌}
+use Rattle.std.specs.Prelude.{nat_eq, not, ◌&&◌}
 use Rattle.std.specs.List.{AllByRecursion, IsDistinct, list_all}
 use Rattle.std.specs.Str.{bytes_eq}
-use Rattle.std.proofs.lemmas.Bool.{and_parts, not-true, eqb-true, eqb-false, ltb-true}
+use Rattle.std.proofs.lemmas.Bool.{and_parts, not-true, eqb-true}
 use Rattle.std.proofs.lemmas.Slice.Eq.{bytes_eq-Decides}
 use Rattle.std.proofs.lemmas.Map.Made.{AllPairs-from_IsDistinct}
-use Rattle.ags_text.specs.Bytes.{ascii_end, carriage_return, line_feed}
 use Rattle.ags_text.specs.Names.{is_group_name, is_heading_name}
 use Rattle.ags_rows.specs.Contents.{Contents}
 use Rattle.ags_rows.specs.Writing.{IsPlainByte, ArePlain, AreDistinct, AreUnder, AreHeadings, IsWellFormedGroup, IsWellFormed, group_names}
 use Rattle.ags_rows.proofs.AtPlaces.{all_by_test}
+use Rattle.ags_rows.proofs.Written.{is_plain, plain_from}
 
 -- ---- the tests
 
-abbrev is_plain_byte : ℕ → Bool
-is_plain_byte b = nat_lt b ascii_end && (not (nat_eq b carriage_return) && not (nat_eq b line_feed))
-
 abbrev are_plain : List (List ℕ) → Bool
-are_plain fields = list_all (λ f. list_all is_plain_byte f) fields
+are_plain fields = list_all is_plain fields
 
 abbrev is_filled : {X : Type 0} → List X → Bool
 is_filled [] = false
@@ -45,18 +42,8 @@ is_well_formed groups = is_filled groups && (list_all is_well_formed_group group
 
 -- ---- what they say
 
-plain_byte : (b : ℕ) → is_plain_byte b ≡ true → IsPlainByte b
-plain_byte b e =
-    let parts = and_parts (nat_lt b 128) (not (nat_eq b 13) && not (nat_eq b 10)) e in
-    let apart = and_parts (not (nat_eq b 13)) (not (nat_eq b 10)) parts.1 in
-    record {
-      ascii = ltb-true b 128 parts.0;
-      no_return = eqb-false b 13 (not-true (nat_eq b 13) apart.0);
-      no_feed = eqb-false b 10 (not-true (nat_eq b 10) apart.1);
-    }
-
 plain_fields : (fields : List (List ℕ)) → are_plain fields ≡ true → ArePlain fields
-plain_fields = all_by_test (λ f. AllByRecursion IsPlainByte f) (λ f. list_all is_plain_byte f) (all_by_test IsPlainByte is_plain_byte plain_byte)
+plain_fields = all_by_test (λ f. AllByRecursion IsPlainByte f) is_plain plain_from
 
 filled : {X : Type 0} (xs : List X) → is_filled xs ≡ true → xs ≢ []
 filled [] e = absurd cc

@@ -1,6 +1,6 @@
 -- A file has fewer rows than bytes, and a group no more DATA rows than rows.
 use Rattle.std.proofs.Common.{◌≡◌, ℕ, ◌+◌, ◌<◌, ◌≤◌, List, [], ◌∷◌, ◌++◌, length, flat_map, ap, sym, ◌∙◌, arith, inl, inr, take, drop, get_or}
-use Rattle.std.proofs.lemmas.List.{length-append, length-map, take_more, take-append-drop}
+use Rattle.std.proofs.lemmas.List.{length-append, length-map, drop_more, take-append-drop}
 use Rattle.std.proofs.lemmas.Grind.{flat_map-append}
 use Rattle.ags_rows.specs.declared.rows.FileRow.{FileRow}
 use Rattle.ags_rows.specs.declared.rows.Row.{Row}
@@ -42,13 +42,9 @@ joined front back = ap length (flat_map-append rows_in front back) ∙ length-ap
   rows_in : Group → List Row
   rows_in group = group.rows
 
--- with one group more
-pub row_count_step : (groups : List Group) (i : ℕ) (g : Group) → i < length groups → g ≡ get_or groups i g → row_count (take (i + 1) groups) ≡ row_count (take i groups) + length g.rows
+-- with those of the next they are some of all rows
+pub row_count_step : (groups : List Group) (i : ℕ) (g : Group) → i < length groups → g ≡ get_or groups i g → row_count (take i groups) + length g.rows ≤ row_count groups
 row_count_step groups i g lt at =
-    let more : row_count (take (i + 1) groups) ≡ row_count (take i groups ++ get_or groups i g ∷ []) = ap row_count (take_more groups i g lt) in
-    let last : row_count (get_or groups i g ∷ []) ≡ row_count (g ∷ []) = ap (λ (h : Group). row_count (h ∷ [])) (sym at) in
-    omega (arith, more, joined (take i groups) (get_or groups i g ∷ []), last, length-append g.rows [])
-
--- they are some of all rows
-pub row_count_within : (groups : List Group) (i : ℕ) → row_count (take i groups) ≤ row_count groups
-row_count_within groups i = omega (arith, ap row_count (take-append-drop i groups), joined (take i groups) (drop i groups))
+    let rest = drop (i + 1) groups in
+    let cut : drop i groups ≡ g ∷ rest = drop_more groups i g lt ∙ ap (λ (h : Group). h ∷ rest) (sym at) in
+    omega (arith, ap row_count (take-append-drop i groups), joined (take i groups) (drop i groups), ap row_count cut, length-append g.rows (flat_map (λ (h : Group). h.rows) rest))

@@ -22,6 +22,7 @@ use Rattle.ags_rows.specs.Contents.{contents_of, fields_of}
 use Rattle.ags_rows.specs.Writing.{IsPlainByte, ArePlain, IsPlainGroup, AreDistinct}
 use Rattle.ags_rows.proofs.AtPlaces.{all_from_at, all_left, all_right, at_read, at_from_read, none_by_test}
 use Rattle.ags_rows.proofs.Breaking.{high_any}
+use Rattle.ags_rows.proofs.Fields.{lacks_return, lacks_feed}
 use Rattle.ags_rows.proofs.Pieces.{quoted_back}
 
 -- ---- the bytes of a field are bytes of its line
@@ -40,27 +41,19 @@ fields_back P t (f ∷ g ∷ fs) s h =
     let parts = subst (AllByRecursion P) s.2 h in
     (piece_back P s.0 f s.3 (all_left P s.0 (44 ∷ s.1) parts), fields_back P s.1 (g ∷ fs) s.4 (all_right P s.0 (44 ∷ s.1) parts).1)
 
-fields_whole : (t : List ℕ) (fs : List (List ℕ)) → Spells t fs → AllByRecursion (λ f. Lacks 13 f × Lacks 10 f) fs
-fields_whole t [] s = absurd s
-fields_whole t (f ∷ []) s = ((s.3, s.4), tt)
-fields_whole t (f ∷ g ∷ fs) s = ((s.3.3, s.3.4), fields_whole s.1 (g ∷ fs) s.4)
-
 -- ASCII
 abbrev pub IsLow : List ℕ → Type 0
 IsLow text = AllByRecursion (λ b. b < 128) text
 
-field_plain : (f : List ℕ) → IsLow f → Lacks 13 f → Lacks 10 f → AllByRecursion IsPlainByte f
-field_plain [] a b c = tt
-field_plain (x ∷ f) a b c = (record { ascii = a.0; no_return = b.0; no_feed = c.0 }, field_plain f a.1 b.1 c.1)
-
-fields_plain : (fs : List (List ℕ)) → AllByRecursion IsLow fs → AllByRecursion (λ f. Lacks 13 f × Lacks 10 f) fs → ArePlain fs
-fields_plain [] a b = tt
-fields_plain (f ∷ fs) a b = (field_plain f a.0 b.0.0 b.0.1, fields_plain fs a.1 b.1)
+text_plain : (t : List ℕ) → IsLow t → Lacks 13 t → Lacks 10 t → AllByRecursion IsPlainByte t
+text_plain [] a b c = tt
+text_plain (x ∷ t) a b c = (record { ascii = a.0; no_return = b.0; no_feed = c.0 }, text_plain t a.1 b.1 c.1)
 
 row_plain : (line : TextLine) (row : FileRow) → IsRow line row → IsLow line.content → ArePlain row.items
 row_plain line row r low =
+    let t = line.content in
     let fields = descriptor_text row.descriptor ∷ row.items in
-    (fields_plain fields (fields_back (λ b. b < 128) line.content fields r low) (fields_whole line.content fields r)).1
+    (fields_back IsPlainByte t fields r (text_plain t low (lacks_return t fields r) (lacks_feed t fields r))).1
 
 -- ---- lines that break nothing are ASCII
 
@@ -86,19 +79,14 @@ data_plain : (rows : List Row) → AllByRecursion (λ r. ArePlain r.items) (map 
 data_plain [] h = tt
 data_plain (r ∷ rows) h = (h.0, data_plain rows h.1)
 
-pub contents_plain : (groups : List Group) → AllByRecursion (λ r. ArePlain r.items) (flat_map rows_of groups) → AllByRecursion IsPlainGroup (contents_of groups)
+contents_plain : (groups : List Group) → AllByRecursion (λ r. ArePlain r.items) (flat_map rows_of groups) → AllByRecursion IsPlainGroup (contents_of groups)
 contents_plain [] h = tt
 contents_plain (g ∷ groups) h =
     let rest = h.1.1.1.1 in
     let rows = map as_file_row g.rows in
-    let P = λ (r : FileRow). ArePlain r.items in (
-      record {
-        name = h.0.0;
-        headings = h.1.0;
-        units = h.1.1.0;
-        types = h.1.1.1.0;
-        rows = data_plain g.rows (all_left P rows (flat_map rows_of groups) rest);
-      },
+    let P = λ (r : FileRow). ArePlain r.items in
+    let data_rows = data_plain g.rows (all_left P rows (flat_map rows_of groups) rest) in (
+      record { name = h.0.0; headings = h.1.0; units = h.1.1.0; types = h.1.1.1.0; rows = data_rows },
       contents_plain groups (all_right P rows (flat_map rows_of groups) rest),
     )
 
@@ -119,14 +107,10 @@ pub clear_first : (Stands : Finding → Type 0) (later : List (Finding → Type 
 clear_first Stands later (inl h) = absurd (h.1 refl)
 clear_first Stands later (inr h) = h
 
-some_groups : (rows : List FileRow) (groups : List Group) → flat_map rows_of groups ≡ rows → ((f : Finding) → StandsInOrder rows f → ⊥) → groups ≢ []
-some_groups rows groups cut clear e =
-    let none : rows ≡ [] = sym cut ∙ ap (λ (l : List Group). flat_map rows_of l) e in
-    clear (noted 0 codes.Rule2) (inl (none, refl, refl, refl))
-
 pub read_plain : (bytes : List ℕ) (groups : List Group) → FileGroups bytes groups → (groups ≢ []) × AllByRecursion IsPlainGroup (contents_of groups)
 read_plain bytes groups h =
     let lines = clear_first (StandsInLines h.0.lines) (later_phases h.0.rows h.0.groups) h.2 in
     let order = clear_first (StandsInOrder h.0.rows) (StandsInGroups h.0.groups ∷ []) lines.1 in
     let plain = rows_plain 1 h.0.lines h.0.rows h.1.rows (low_lines h.0.lines lines.0) in
-    (some_groups h.0.rows groups h.3 order.0, contents_plain groups (subst (AllByRecursion (λ (r : FileRow). ArePlain r.items)) (sym h.3) plain))
+    let some : groups ≢ [] = λ e. order.0 (noted 0 codes.Rule2) (inl (sym h.3 ∙ ap (λ (l : List Group). flat_map rows_of l) e, refl, refl, refl)) in
+    (some, contents_plain groups (subst (AllByRecursion (λ (r : FileRow). ArePlain r.items)) (sym h.3) plain))

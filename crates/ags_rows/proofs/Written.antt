@@ -1,5 +1,5 @@
 -- The lines and rows of a file that is written.
-use Rattle.std.proofs.Common.{◌≡◌, ◌≢◌, ℕ, zero, suc, ◌+◌, ◌<◌, true, false, eqb, ltb, ◌&&◌, ◌||◌, List, [], ◌∷◌, ◌++◌, length, map, flat_map, Option, Some, None, refl, sym, ap, subst, ◌∙◌, arith, inl, inr}
+use Rattle.std.proofs.Common.{◌≡◌, ◌≢◌, ℕ, zero, suc, ◌+◌, ◌<◌, Bool, true, false, eqb, ltb, ◌&&◌, ◌||◌, List, [], ◌∷◌, ◌++◌, length, map, flat_map, Option, Some, None, refl, sym, ap, subst, ◌∙◌, arith, inl, inr}
 use Rattle.std.specs.Prelude.{◌⊎◌, nat_le, MatchOption, codes as bytes}
 use Rattle.std.specs.List.{AllByRecursion, list_all}
 use Rattle.std.proofs.lemmas.Bool.{eqb-true, and_parts, or_cases, ltb-true, leb-true}
@@ -49,7 +49,11 @@ line_all P (f ∷ g ∷ fields) q c h = all_append P (quoted f) (44 ∷ line_of 
 plain_byte : (b : ℕ) → 13 < b → b < 128 → IsPlainByte b
 plain_byte b more less = record { ascii = less; no_return = λ e. omega (arith, e, more); no_feed = λ e. omega (arith, e, more) }
 
-plain_from : (t : List ℕ) → list_all (λ b. ltb 13 b && ltb b 128) t ≡ true → AllByRecursion IsPlainByte t
+-- by a test that computes
+abbrev pub is_plain : List ℕ → Bool
+is_plain t = list_all (λ b. ltb 13 b && ltb b 128) t
+
+pub plain_from : (t : List ℕ) → is_plain t ≡ true → AllByRecursion IsPlainByte t
 plain_from t e = all_by_test IsPlainByte (λ b. ltb 13 b && ltb b 128) each t e where
   each : (b : ℕ) → ltb 13 b && ltb b 128 ≡ true → IsPlainByte b
   each b e = let q = and_parts (ltb 13 b) (ltb b 128) e in plain_byte b (ltb-true 13 b q.0) (ltb-true b 128 q.1)

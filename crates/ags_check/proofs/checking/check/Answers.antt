@@ -13,8 +13,7 @@ of-requires c =
 pub returns-in_err-graph-clause-findings : goal.returns-in_err-graph-clause-findings
 returns-in_err-graph-clause-findings c = λ found is.
     let p = err_from_is_err_and c.from_residual-in_err-graph.result c.from_residual-in_err-graph.ensures.1 in
-    let same : p.0 ≡ c.in_err-graph.field-0.0 = p.2 in
-    let of_callee : c.in_err-graph.field-0.0 ≡ CheckError.Findings found = cc in
+    let of_callee : c.in_err-graph.field-0.0 ≡ CheckError.Findings found = cc (p.1, p.2) in
     let these = c.in_err-graph.ensures.findings found (ap (λ e. Err e) of_callee) in
     (groups_found c.args.dictionary.now c.in_ok-extended.extended c.args.bytes.now c.in_ok-scan.scan found c.in_ok-scan.ensures.groups c.in_ok-extended.ensures these.0, these.1)
 

@@ -1,14 +1,10 @@
-use Rattle.std.proofs.Common.{◌≡◌, List, [], ◌∷◌, subst}
 use Rattle.std.proofs.lemmas.Result.{IfOk-weaker}
-use Rattle.ags_rows.specs.declared.code.Code.TheVariants.{Rule10a, Rule10b, Rule10c}
+use Rattle.ags_rows.specs.declared.code.Code.TheVariants.{Rule10a, Rule10c}
 use Rattle.ags_rows.specs.Collecting.{Adds, Notes}
-use Rattle.ags_rows.specs.Contents.{Contents, group_contents, fields_of}
+use Rattle.ags_rows.specs.Contents.{group_contents, fields_of}
 use Rattle.ags_rows.proofs.Lemmas.{adds_found, adds_unmet}
-use Rattle.ags_dict.specs.Entries.{Entries, required_of}
-use Rattle.ags_links.specs.DataRows.{row_in, entry_of}
+use Rattle.ags_links.specs.DataRows.{row_in}
 use Rattle.ags_links.specs.Indexing.{rows_in}
-use Rattle.ags_check.specs.Placing.{InSome}
-use Rattle.ags_check.proofs.EntryNotes.{entry_rules_in}
 use Rattle.ags_check.specs.RowRules.{RepeatsKey, LacksParentRow}
 use Rattle.ags_check.proofs.RowNotes.{same_group, row_noted}
 use Rattle.ags_check.proofs.rows.note_data_row.Goals as goal
@@ -26,27 +22,19 @@ returns c =
     let group = c.args.outline.now.group in
     let row = c.args.row.now in
     let r = row_in (group_contents group) (fields_of row) in
-    let f0 = c.args.findings.now in
     let f1 = c.note_entries.new.findings in
-    let f2 = c.if-repeats_key.findings in
     let f3 = c.note_lacking.new.findings in
-    let f4 = c.if-lacks_parent.findings in
-    let f5 = c.note_links.new.findings in
-    let f6 = c.note_unlisted_file_set.new.findings in
     let repeats = c.repeats_key.ensures r c.requires.row in
     let orphan = c.lacks_parent.ensures r c.requires.row in
-    let key : Adds (Notes row.line Rule10a group.name (RepeatsKey file.entries file.contents c.args.number r)) f1 f2 = elim c.if-repeats_key.branch [
+    let key : Adds (Notes row.line Rule10a group.name (RepeatsKey file.entries file.contents c.args.number r)) f1 c.if-repeats_key.findings = elim c.if-repeats_key.branch [
       | then-repeats_key+in_ok-note w ↦ adds_found (repeats.0 w.if-repeats_key.true) (cc (c.name-name.ensures, w.findings-is, w.in_ok-note.ensures.noted))
       | else-repeats_key w ↦ adds_unmet w.if-repeats_key.false repeats.1 w.findings-is
     ] in
-    let parent : Adds (Notes row.line Rule10c group.name (LacksParentRow file.entries file.contents r)) f3 f4 = elim c.if-lacks_parent.branch [
+    let parent : Adds (Notes row.line Rule10c group.name (LacksParentRow file.entries file.contents r)) f3 c.if-lacks_parent.findings = elim c.if-lacks_parent.branch [
       | then-lacks_parent+in_ok-note-2 w ↦ adds_found (orphan.0 w.if-lacks_parent.true) (cc (c.name-name.ensures, w.findings-is, w.in_ok-note-2.ensures.noted))
       | else-lacks_parent w ↦ adds_unmet w.if-lacks_parent.false orphan.1 w.findings-is
     ] in
+    let entries = rw c.requires.listed at c.in_ok-note_entries.ensures in
+    let lacking = rw c.requires.entries at c.in_ok-note_lacking.ensures in
     IfOk-weaker c.note_unlisted_file_set.result _ _ (λ _ set.
-    row_noted file.entries file.contents group c.args.number row f0 f1 f2 f3 f4 f5 f6
-    (subst (λ (l : List Contents). Adds (InSome group.headings (entry_rules_in l row.line (group_contents group) (fields_of row))) f0 f1) c.requires.listed
-    c.in_ok-note_entries.ensures)
-    key
-    (subst (λ (e : Entries). Adds (InSome (required_of e group.name) (λ heading. Notes row.line Rule10b heading (entry_of r heading ≡ []) ∷ [])) f2 f3) c.requires.entries c.in_ok-note_lacking.ensures)
-    parent c.in_ok-note_links.ensures set) c.note_unlisted_file_set.ensures
+    row_noted file.entries file.contents group c.args.number row _ _ _ _ _ _ _ entries key lacking parent c.in_ok-note_links.ensures set) c.note_unlisted_file_set.ensures

@@ -1,9 +1,8 @@
-use Rattle.std.proofs.Common.{◌≡◌, ◌+◌, ◌≤◌, List, ℕ, sym, ap, subst, length, arith}
+use Rattle.std.proofs.Common.{◌≡◌, ◌+◌, ◌≤◌, List, ℕ, sym, ap, length, arith}
 use Rattle.ags_rows.specs.declared.rows.Group.{Group}
-use Rattle.ags_rows.specs.Collecting.{Adds, At, OneOf}
+use Rattle.ags_rows.specs.Collecting.{At, OneOf}
 use Rattle.ags_rows.specs.Contents.{Contents, contents_of}
 use Rattle.ags_rows.proofs.Lemmas.{among_more, among_all}
-use Rattle.ags_dict.specs.Entries.{Entries}
 use Rattle.ags_links.specs.DataRows.{data_rows, rows_before}
 use Rattle.ags_check.specs.Columns.{HaveRowsOf}
 use Rattle.ags_check.specs.RowRules.{entry_rules_of}
@@ -13,9 +12,7 @@ use Rattle.ags_check.proofs.rows.note_row_groups.Goals as goal
 -- the rows of the group at a place are numbered from a number on, as the index has them
 has_rows : (groups : List Group) (contents : List Contents) (i first : ℕ) (group : Group) → contents ≡ contents_of groups → first ≡ rows_before (contents_of groups) i → At groups i group
     → HaveRowsOf (data_rows contents) first group
-has_rows groups contents i first group same is at =
-    subst (λ (c : List Contents). HaveRowsOf (data_rows c) first group) (sym same)
-    (subst (λ (n : ℕ). HaveRowsOf (data_rows (contents_of groups)) n group) (sym is) (group_rows groups i group at))
+has_rows groups contents i first group same is at = rw (same, is) (group_rows groups i group at)
 
 few : (groups : List Group) (contents : List Contents) (i first : ℕ) (group : Group) → contents ≡ contents_of groups → first ≡ rows_before (contents_of groups) i → At groups i group
     → first + length group.rows ≤ length (data_rows contents)
@@ -51,21 +48,14 @@ loop-group-preserved c =
     let i = c.loop-group.group-index in
     let group = c.group-item.result in
     let at : At groups i group = (c.loop-group-test.true, sym c.group-item.is) in
-    let mid = c.loop-group.findings in
-    let new = c.note_group_entries.new.findings in
+    let here = rw (← c.requires.entries, c.requires.contents, c.loop-group.invariant.first) at c.in_ok-note_group_entries.ensures in
     record {
       first = omega (arith, c.loop-group.invariant.first, c.len-size.ensures, group_next groups i group at);
-      noted =
-          among_more groups (λ place g f. OneOf (entry_rules_of c.args.dictionary.now contents (rows_before contents place) g) f) i group c.args.findings.now mid new at c.loop-group.invariant.noted
-          (subst (λ (n : ℕ). Adds (OneOf (entry_rules_of c.args.dictionary.now contents n group)) mid new) c.loop-group.invariant.first
-          (subst (λ (l : List Contents). Adds (OneOf (entry_rules_of c.args.dictionary.now l c.loop-group.first group)) mid new) c.requires.contents
-          (subst (λ (e : Entries). Adds (OneOf (entry_rules_of e c.args.index.now.contents c.loop-group.first group)) mid new) (sym c.requires.entries) c.in_ok-note_group_entries.ensures)));
+      noted = among_more groups (λ place g f. OneOf (entry_rules_of c.args.dictionary.now contents (rows_before contents place) g) f) i group _ _ _ at c.loop-group.invariant.noted here;
     }
 
 pub returns : goal.returns
 returns c =
     let groups = c.args.groups.now in
     let contents = contents_of groups in
-    let old = c.args.findings.now in
-    let new = c.loop-group.findings in
-    among_all groups (λ place g f. OneOf (entry_rules_of c.args.dictionary.now contents (rows_before contents place) g) f) c.loop-group.group-index old new (omega (arith, c.loop-group-test.false)) c.loop-group.invariant.noted
+    among_all groups (λ place g f. OneOf (entry_rules_of c.args.dictionary.now contents (rows_before contents place) g) f) _ _ _ c.loop-group-test.false c.loop-group.invariant.noted

@@ -1,5 +1,4 @@
-use Rattle.std.proofs.Common.{◌≡◌, ◌≢◌, ℕ, Bool, List, [], false, refl, subst}
-use Rattle.std.specs.Prelude.{◌↔◌, IsTrue, codes}
+use Rattle.std.proofs.Common.{◌≡◌, ◌≢◌, ℕ, Bool, List, [], false, refl, subst, ◌↔◌, IsTrue, codes}
 use Rattle.ags_rows.specs.declared.rows.Group.{Group}
 use Rattle.ags_rows.specs.Contents.{Contents, group_contents, under}
 use Rattle.ags_text.specs.Names.{is_definition}

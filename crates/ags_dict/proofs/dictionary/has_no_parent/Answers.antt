@@ -1,5 +1,4 @@
-use Rattle.std.proofs.Common.{◌∙◌, [], ◌∷◌}
-use Rattle.std.specs.Prelude.{codes}
+use Rattle.std.proofs.Common.{◌∙◌, [], ◌∷◌, codes}
 use Rattle.ags_text.proofs.Lemmas.{any_other_way}
 use Rattle.ags_dict.proofs.dictionary.has_no_parent.Goals as goal
 

@@ -1,6 +1,5 @@
-use Rattle.std.proofs.Common.{◌≡◌, ◌<◌, length, List, get_or, map, subst, ap, arith}
+use Rattle.std.proofs.Common.{length, map, ap, arith}
 use Rattle.std.proofs.lemmas.List.{length-map}
-use Rattle.ags_rows.specs.declared.rows.Row.{Row}
 use Rattle.ags_rows.specs.Contents.{fields_of}
 use Rattle.ags_dict.specs.Entries.{group_entries, heading_entries, same_group, same_heading}
 use Rattle.ags_dict.proofs.FirstOfEach.{with_new_none, with_new_more, with_new_all}
@@ -10,8 +9,8 @@ pub loop-row-preserved : goal.loop-row-preserved
 loop-row-preserved c =
     let row = c.row-item.result in
     let rows = c.args.group.now.rows in
-    let is : row ≡ get_or rows c.loop-row.row-index row = subst (λ (r : List Row). row ≡ get_or r c.loop-row.row-index row) c.as_slice-row-items.ensures c.row-item.is in
-    let below : c.loop-row.row-index < length rows = subst (λ (r : List Row). c.loop-row.row-index < length r) c.as_slice-row-items.ensures c.loop-row-test.true in
+    let is = rw c.as_slice-row-items.ensures at c.row-item.is in
+    let below = rw c.as_slice-row-items.ensures at c.loop-row-test.true in
     record {
       groups = with_new_more same_group (group_entries c.args.group.now.headings) fields_of rows c.loop-row.row-index row _ _ _ below is c.loop-row.invariant.groups
           (rw (c.as_slice-names.ensures, c.as_slice-cells.ensures) at c.in_ok-groups.ensures);

@@ -10,10 +10,8 @@ use Rattle.ags_rows.proofs.checking.note_heading.Goals.{then-not-is_heading_name
 pub returns-clause-noted : goal.returns-clause-noted
 returns-clause-noted c =
     let name = c.args.heading.now in
-    let old = c.args.findings.now in
-    let mid = c.if-not-is_heading_name.findings in
-    let first : Adds (Notes c.args.line Rule19a name (is_heading_name name ≡ false)) old mid = elim c.if-not-is_heading_name.branch [
+    let first : Adds (Notes c.args.line Rule19a name (is_heading_name name ≡ false)) c.args.findings.now c.if-not-is_heading_name.findings = elim c.if-not-is_heading_name.branch [
       | then-not-is_heading_name+in_ok-note w ↦ adds_found (sym c.is_heading_name.ensures ∙ w.if-not-is_heading_name.true) (w.findings-is ∙ w.in_ok-note.ensures.noted)
       | else-not-is_heading_name w ↦ adds_unmet (ap not (sym c.is_heading_name.ensures ∙ w.if-not-is_heading_name.false)) (λ is. ap not is) w.findings-is
     ] in
-    IfOk-weaker c.note_repeat.result _ _ (λ _ again. two_rules old mid c.note_repeat.new.findings first again) c.note_repeat.ensures.noted
+    IfOk-weaker c.note_repeat.result _ _ (λ _ again. two_rules _ _ _ first again) c.note_repeat.ensures.noted

@@ -14,29 +14,25 @@ loop-place-preserved c =
     let rows = c.args.rows.now in
     let place = c.loop-place.place in
     let row = c.index-rows-place.result in
-    let old = c.loop-place.findings in
     let mid = c.if-is_out_of_place.findings in
-    let new = c.if-is_unnamed.findings in
     let at : At rows place row = (c.loop-place-test.true, sym c.index-rows-place.is) in
     let out = c.is_out_of_place.ensures row at in
     let unnamed = c.is_unnamed.ensures in
-    let order : Adds (Notes row.line Rule2b [] (OutOfPlace rows place row)) old mid = elim c.if-is_out_of_place.branch [
+    let order : Adds (Notes row.line Rule2b [] (OutOfPlace rows place row)) c.loop-place.findings mid = elim c.if-is_out_of_place.branch [
       | then-is_out_of_place+in_ok-note-2 w ↦ adds_found (out.0 w.if-is_out_of_place.true) (w.findings-is ∙ w.in_ok-note-2.ensures.noted)
       | else-is_out_of_place w ↦ adds_unmet w.if-is_out_of_place.false out.1 w.findings-is
     ] in
-    let name : Adds (Notes row.line Rule4 [] ((row.descriptor ≡ kinds.Group) × (length row.items ≢ 1))) mid new = elim c.if-is_unnamed.branch [
+    let name : Adds (Notes row.line Rule4 [] ((row.descriptor ≡ kinds.Group) × (length row.items ≢ 1))) mid c.if-is_unnamed.findings = elim c.if-is_unnamed.branch [
       | then-is_unnamed+in_ok-note-3 w ↦ adds_found (unnamed.0 w.if-is_unnamed.true) (w.findings-is ∙ w.in_ok-note-3.ensures.noted)
       | else-is_unnamed w ↦ adds_unmet w.if-is_unnamed.false unnamed.1 w.findings-is
     ] in
-    among_more rows (λ place row. OneOf (row_rules rows place row)) place row c.if-is_empty.findings old new at c.loop-place.invariant (two_rules old mid new order name)
+    among_more rows (λ place row. OneOf (row_rules rows place row)) place row _ _ _ at c.loop-place.invariant (two_rules _ _ _ order name)
 
 pub returns : goal.returns
 returns c =
     let rows = c.args.rows.now in
-    let old = c.args.findings.now in
-    let mid = c.if-is_empty.findings in
-    let none : Adds (Notes 0 Rule2 [] (rows ≡ [])) old mid = elim c.if-is_empty.branch [
+    let none : Adds (Notes 0 Rule2 [] (rows ≡ [])) c.args.findings.now c.if-is_empty.findings = elim c.if-is_empty.branch [
       | then-is_empty+in_ok-note w ↦ adds_found (empties rows _ c.is_empty.ensures w.if-is_empty.true) (w.findings-is ∙ w.in_ok-note.ensures.noted)
       | else-is_empty w ↦ adds_unmet w.if-is_empty.false (λ e. empty rows _ c.is_empty.ensures e) w.findings-is
     ] in
-    two_rules old mid c.loop-place.findings none (among_all rows (λ place row. OneOf (row_rules rows place row)) c.loop-place.place mid c.loop-place.findings c.loop-place-test.false c.loop-place.invariant)
+    two_rules _ _ _ none (among_all rows (λ place row. OneOf (row_rules rows place row)) _ _ _ c.loop-place-test.false c.loop-place.invariant)

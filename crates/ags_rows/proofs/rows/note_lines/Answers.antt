@@ -17,19 +17,17 @@ loop-i-preserved c =
     let lines = c.args.lines.now in
     let i = c.loop-i.i in
     let line = text_line (get_or lines i _) in
-    let old = c.loop-i.findings in
     let mid = c.if-has_high.findings in
-    let new = c.if-eq.findings in
-    let high : Adds (Notes (i + 1) Rule1 [] (Any (λ b. ascii_end ≤ b) line.content)) old mid = elim c.if-has_high.branch [
+    let high : Adds (Notes (i + 1) Rule1 [] (Any (λ b. ascii_end ≤ b) line.content)) c.loop-i.findings mid = elim c.if-has_high.branch [
       | then-has_high+in_ok-note w ↦ adds_found (high_any line.content (sym c.has_high.ensures ∙ w.if-has_high.true)) (w.findings-is ∙ w.in_ok-note.ensures.noted)
       | else-has_high w ↦ adds_unmet w.if-has_high.false (λ h. c.has_high.ensures ∙ any_high line.content h) w.findings-is
     ] in
-    let ending : Adds (Notes (i + 1) Rule2a [] (line.ending ≡ Lf)) mid new = elim c.if-eq.branch [
+    let ending : Adds (Notes (i + 1) Rule2a [] (line.ending ≡ Lf)) mid c.if-eq.findings = elim c.if-eq.branch [
       | then-eq+in_ok-note-2 w ↦ adds_found (lf_same line.ending (sym c.eq.ensures ∙ w.if-eq.true)) (w.findings-is ∙ w.in_ok-note-2.ensures.noted)
       | else-eq w ↦ adds_unmet w.if-eq.false (λ e. c.eq.ensures ∙ same_lf line.ending e) w.findings-is
     ] in
-    among_more (map text_line lines) (λ place line. OneOf (byte_rules (place + 1) line)) i line c.args.findings.now old new
-    (at_line lines i _ c.loop-i-test.true) c.loop-i.invariant (two_rules old mid new high ending)
+    among_more (map text_line lines) (λ place line. OneOf (byte_rules (place + 1) line)) i line _ _ _
+    (at_line lines i _ c.loop-i-test.true) c.loop-i.invariant (two_rules _ _ _ high ending)
 
 pub returns : goal.returns
 returns c =

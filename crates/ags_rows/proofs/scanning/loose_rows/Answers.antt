@@ -1,29 +1,21 @@
-use Rattle.std.proofs.Common.{[], map, ap, subst, arith, length}
-use Rattle.std.proofs.lemmas.List.{length-map}
+use Rattle.std.proofs.Common.{[]}
 use Rattle.std.proofs.lemmas.Result.{IfOk-weaker}
-use Rattle.ags_rows.specs.declared.TheConstants.{READABLE}
-use Rattle.ags_rows.specs.Lines.{Lines, after_byte_order_mark, text_line}
-use Rattle.ags_rows.specs.Parsing.{AreTaken}
-use Rattle.ags_rows.proofs.Files.{lines_within}
+use Rattle.ags_rows.proofs.Files.{lines_few}
 use Rattle.ags_rows.proofs.FirstPhase.{rows_loose}
 use Rattle.ags_rows.proofs.scanning.loose_rows.Goals as goal
 
 pub spelled_rows-requires : goal.spelled_rows-requires
 spelled_rows-requires c =
-    let lines = map text_line c.in_ok-lines.lines.items in
-    let cut : Lines (after_byte_order_mark c.args.bytes.now) lines = subst (λ t. Lines t lines) c.after_byte_order_mark.ensures c.in_ok-lines.ensures in
-    omega (arith, lines_within c.args.bytes.now lines READABLE cut c.requires, length-map c.in_ok-lines.lines.items text_line, ap length c.as_slice.ensures.value)
+    rw c.as_slice.ensures.value (lines_few c.args.bytes.now _ c.in_ok-lines.lines.items _ c.after_byte_order_mark.ensures c.in_ok-lines.ensures c.requires)
 
 pub returns-clause-rows : goal.returns-clause-rows
 returns-clause-rows c =
-    let lines = map text_line c.in_ok-lines.lines.items in
-    let cut : Lines (after_byte_order_mark c.args.bytes.now) lines = subst (λ t. Lines t lines) c.after_byte_order_mark.ensures c.in_ok-lines.ensures in
-    IfOk-weaker c.spelled_rows.result _ _ (λ rows h. rows_loose c.args.bytes.now lines c.new.result rows.items [] cut c.new.ensures
-    (subst (λ x. AreTaken (map text_line x) c.new.result rows.items []) c.as_slice.ensures.value h)) c.spelled_rows.ensures.rows
+    let cut = rw c.after_byte_order_mark.ensures at c.in_ok-lines.ensures in
+    let taken = rw c.as_slice.ensures.value at c.spelled_rows.ensures.rows in
+    IfOk-weaker c.spelled_rows.result _ _ (λ rows h. rows_loose c.args.bytes.now _ _ rows.items [] cut c.new.ensures h) taken
 
 pub returns-clause-findings : goal.returns-clause-findings
 returns-clause-findings c = λ found is.
-    let lines = map text_line c.in_ok-lines.lines.items in
-    let cut : Lines (after_byte_order_mark c.args.bytes.now) lines = subst (λ t. Lines t lines) c.after_byte_order_mark.ensures c.in_ok-lines.ensures in
-    let h = c.spelled_rows.ensures.findings found is in
-    (h.0, (h.1.0, rows_loose c.args.bytes.now lines c.new.result h.1.0 found cut c.new.ensures (subst (λ x. AreTaken (map text_line x) c.new.result h.1.0 found) c.as_slice.ensures.value h.1.1)))
+    let cut = rw c.after_byte_order_mark.ensures at c.in_ok-lines.ensures in
+    let h = rw c.as_slice.ensures.value at (c.spelled_rows.ensures.findings found is) in
+    (h.0, (h.1.0, rows_loose c.args.bytes.now _ _ h.1.0 found cut c.new.ensures h.1.1))

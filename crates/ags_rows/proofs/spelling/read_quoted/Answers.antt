@@ -10,8 +10,7 @@ use Rattle.ags_rows.proofs.spelling.read_quoted.Goals.{then-from-eq0, else-from-
 pub loop-next-preserved : goal.loop-next-preserved
 loop-next-preserved c =
     let t = c.args.text.now in
-    let i = c.loop-next.invariant in
-    let q = at_quote t c.loop-next.from c.in-Some.next i.within c.in-Some.ensures i.so_far in
+    let q = at_quote t _ _ c.loop-next.invariant.within c.in-Some.ensures c.loop-next.invariant.so_far in
     let end = c.loop-next.from + c.in-Some.next in
     record {
       within = omega (arith, c.if-end-text.true);
@@ -21,10 +20,8 @@ loop-next-preserved c =
 
 pub borrowed-cell-requires : goal.borrowed-cell-requires
 borrowed-cell-requires c =
-    let t = c.args.text.now in
-    let i = c.loop-next.invariant in
-    let q = at_quote t c.loop-next.from c.in-Some.next i.within c.in-Some.ensures i.so_far in
-    first_quote t c.loop-next.from c.in-Some.next q c.if-from-eq0.true
+    let q = at_quote c.args.text.now _ _ c.loop-next.invariant.within c.in-Some.ensures c.loop-next.invariant.so_far in
+    first_quote _ _ _ q c.if-from-eq0.true
 
 pub owned-cell-requires : goal.owned-cell-requires
 owned-cell-requires c = λ h.
@@ -37,9 +34,8 @@ owned-cell-requires c = λ h.
 pub returns-else-end-text : goal.returns-else-end-text
 returns-else-end-text c =
     let t = c.args.text.now in
-    let i = c.loop-next.invariant in
     let end = c.loop-next.from + c.in-Some.next in
-    let q = at_quote t c.loop-next.from c.in-Some.next i.within c.in-Some.ensures i.so_far in
+    let q = at_quote t _ _ c.loop-next.invariant.within c.in-Some.ensures c.loop-next.invariant.so_far in
     let ends = inner_ends t end q.within q.here (λ lt e. elim c.else-end-text.branch [
       | else-end-text-via-then-end-text+else-text-end-eq34 w ↦ w.if-text-end-eq34.false e
       | else-end-text-via-else-end-text w ↦ absurd (omega (arith, lt))

@@ -1,5 +1,4 @@
-use Rattle.std.proofs.Common.{◌∙◌, ap, sym}
-use Rattle.std.specs.Prelude.{if◌then◌else◌}
+use Rattle.std.proofs.Common.{◌∙◌, ap, sym, if◌then◌else◌}
 use Rattle.ags_rows.specs.declared.code.Code.TheVariants.{Rule9, Rule18}
 use Rattle.ags_check.proofs.header.groups.unknown_code.Goals as goal
 

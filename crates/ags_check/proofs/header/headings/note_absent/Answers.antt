@@ -1,5 +1,4 @@
-use Rattle.std.proofs.Common.{◌≡◌, ◌∙◌, ℕ, List, [], None, get_or, sym, ap, arith}
-use Rattle.std.specs.Prelude.{is_some}
+use Rattle.std.proofs.Common.{◌≡◌, ◌∙◌, ℕ, List, [], None, get_or, sym, ap, is_some}
 use Rattle.std.specs.Borrow.{Bor}
 use Rattle.ags_rows.specs.Collecting.{Adds}
 use Rattle.ags_rows.specs.Contents.{place_in}
@@ -13,16 +12,14 @@ loop-heading-preserved c =
     let d : Bor (List ℕ) = record { ref_ptr = (0, 0); now = [] } in
     let Breaks : ℕ → List ℕ → Type 0 = λ _ name. place_in c.args.row.now name ≡ None in
     let i = c.loop-heading.heading-index in
-    let mid = c.loop-heading.findings in
-    let new = c.if-is_none.findings in
     let test = ap is_some (sym c.find.ensures) ∙ c.is_none.ensures in
-    let here : Adds (NotesName c.args.line c.args.code Breaks i (get_or c.args.listed.now i d).now) mid new = elim c.if-is_none.branch [
+    let here : Adds (NotesName c.args.line c.args.code Breaks i (get_or c.args.listed.now i d).now) c.loop-heading.findings c.if-is_none.findings = elim c.if-is_none.branch [
       | then-is_none+in_ok-note w ↦ adds_found (is_none_true _ _ test w.if-is_none.true) (w.findings-is ∙ w.in_ok-note.ensures.noted)
       | else-is_none w ↦ adds_unmet w.if-is_none.false (is_none_from _ _ test) w.findings-is
     ] in
-    names_more c.args.listed.now c.args.line c.args.code Breaks i d c.args.findings.now mid new c.loop-heading-test.true c.loop-heading.invariant here
+    names_more c.args.listed.now c.args.line c.args.code Breaks i d _ _ _ c.loop-heading-test.true c.loop-heading.invariant here
 
 pub returns : goal.returns
 returns c =
-    names_all c.args.listed.now c.args.line c.args.code (λ _ name. place_in c.args.row.now name ≡ None) c.loop-heading.heading-index
-    c.args.findings.now c.loop-heading.findings (omega (arith, c.loop-heading-test.false)) c.loop-heading.invariant
+    names_all c.args.listed.now c.args.line c.args.code (λ _ name. place_in c.args.row.now name ≡ None)
+    _ _ _ c.loop-heading-test.false c.loop-heading.invariant

@@ -13,14 +13,12 @@ loop-heading-preserved c =
     let d : Bor (List ℕ) = record { ref_ptr = (0, 0); now = [] } in
     let Breaks : ℕ → List ℕ → Type 0 = λ _ name. IsMisnamedBy c.args.given.now c.args.extended.now c.args.group.now name in
     let i = c.loop-heading.heading-index in
-    let mid = c.loop-heading.findings in
-    let new = c.if-is_misnamed.findings in
     let means = c.is_misnamed.ensures in
-    let here : Adds (NotesName c.args.line Rule19b Breaks i (get_or c.args.headings.now i d).now) mid new = elim c.if-is_misnamed.branch [
+    let here : Adds (NotesName c.args.line Rule19b Breaks i (get_or c.args.headings.now i d).now) c.loop-heading.findings c.if-is_misnamed.findings = elim c.if-is_misnamed.branch [
       | then-is_misnamed+in_ok-note w ↦ adds_found (means.0 w.if-is_misnamed.true) (w.findings-is ∙ w.in_ok-note.ensures.noted)
       | else-is_misnamed w ↦ adds_unmet w.if-is_misnamed.false means.1 w.findings-is
     ] in
-    names_more c.args.headings.now c.args.line Rule19b Breaks i d c.args.findings.now mid new c.loop-heading-test.true c.loop-heading.invariant here
+    names_more c.args.headings.now c.args.line Rule19b Breaks i d _ _ _ c.loop-heading-test.true c.loop-heading.invariant here
 
 pub returns : goal.returns
 returns c =

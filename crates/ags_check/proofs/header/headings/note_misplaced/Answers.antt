@@ -1,4 +1,4 @@
-use Rattle.std.proofs.Common.{◌≡◌, ◌∙◌, ◌+◌, ℕ, List, Option, [], get_or, sym, ap, subst, arith}
+use Rattle.std.proofs.Common.{◌≡◌, ◌∙◌, ◌+◌, ℕ, List, Option, [], get_or, sym, ap, subst}
 use Rattle.std.specs.Borrow.{Bor}
 use Rattle.ags_rows.specs.declared.code.Code.TheVariants.{Rule7}
 use Rattle.ags_rows.specs.Contents.{place_in}
@@ -29,22 +29,20 @@ loop-heading-preserved c =
     let rank = place_in order in
     let i = c.loop-heading.heading-index in
     let name = (get_or c.args.headings.now i d).now in
-    let mid = c.loop-heading.findings in
-    let new = c.if-is_before_latest.findings in
     let latest = c.loop-heading.latest in
     let so_far = c.loop-heading.invariant.latest in
     let test : c.is_before_latest.result ≡ is_before_latest (rank name) latest = c.is_before_latest.ensures ∙ ap (λ (p : Option ℕ). is_before_latest p latest) c.place_in_order-place.ensures in
-    let here : Adds (NotesName c.args.line Rule7 (IsOvertaken order names) i name) mid new = elim c.if-is_before_latest.branch [
+    let here : Adds (NotesName c.args.line Rule7 (IsOvertaken order names) i name) c.loop-heading.findings c.if-is_before_latest.findings = elim c.if-is_before_latest.branch [
       | then-is_before_latest+in_ok-note w ↦ adds_found (before_overtaken order names i name latest so_far (sym test ∙ w.if-is_before_latest.true)) (w.findings-is ∙ w.in_ok-note.ensures.noted)
       | else-is_before_latest w ↦ adds_unmet w.if-is_before_latest.false (λ o. test ∙ overtaken_before order names i name latest so_far o) w.findings-is
     ] in
     let next : later latest (rank name) ≡ c.later-latest.result = sym (c.later-latest.ensures ∙ ap (later latest) c.place_in_order-place.ensures) in
     record {
-      noted = names_more c.args.headings.now c.args.line Rule7 (IsOvertaken order names) i d c.args.findings.now mid new c.loop-heading-test.true c.loop-heading.invariant.noted here;
+      noted = names_more c.args.headings.now c.args.line Rule7 (IsOvertaken order names) i d _ _ _ c.loop-heading-test.true c.loop-heading.invariant.noted here;
       latest = subst (IsLatest rank names (i + 1)) next (latest_more rank names i name latest (name_at c.args.headings.now i d c.loop-heading-test.true) so_far);
     }
 
 pub returns : goal.returns
 returns c =
-    names_all c.args.headings.now c.args.line Rule7 (IsOvertaken (order_of c.args.dictionary.now c.args.group.now) (texts c.args.headings.now)) c.loop-heading.heading-index
-    c.args.findings.now c.loop-heading.findings (omega (arith, c.loop-heading-test.false)) c.loop-heading.invariant.noted
+    names_all c.args.headings.now c.args.line Rule7 (IsOvertaken (order_of c.args.dictionary.now c.args.group.now) (texts c.args.headings.now))
+    _ _ _ c.loop-heading-test.false c.loop-heading.invariant.noted

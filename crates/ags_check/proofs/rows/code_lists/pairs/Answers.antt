@@ -1,5 +1,4 @@
-use Rattle.std.proofs.Common.{◌∙◌, map, ap}
-use Rattle.std.proofs.lemmas.List.{take_all}
+use Rattle.std.proofs.Common.{◌∙◌, map, ap, take_all}
 use Rattle.ags_rows.specs.Contents.{contents_of}
 use Rattle.ags_check.specs.CodeLists.{abbreviations, pair_texts}
 use Rattle.ags_check.proofs.rows.code_lists.pairs.Goals as goal

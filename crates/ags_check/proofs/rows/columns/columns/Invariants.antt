@@ -1,5 +1,4 @@
-use Rattle.std.proofs.Common.{◌≡◌, take, map}
-use Rattle.std.specs.Prelude.{All}
+use Rattle.std.proofs.Common.{◌≡◌, take, map, All}
 use Rattle.ags_rows.specs.Contents.{group_contents}
 use Rattle.ags_check.specs.Columns.{IsColumn}
 use Rattle.ags_check.proofs.rows.columns.columns.Given as goal

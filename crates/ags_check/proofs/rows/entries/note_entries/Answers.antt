@@ -1,6 +1,5 @@
-use Rattle.std.proofs.Common.{◌≡◌, ◌≢◌, ◌∙◌, [], List, ℕ, get_or, ap, arith}
+use Rattle.std.proofs.Common.{◌≡◌, ◌≢◌, ◌∙◌, [], List, ℕ, get_or, ap, codes}
 use Rattle.ags_rows.specs.declared.code.Code.TheVariants.{Rule8, Rule15, Rule16, Rule17}
-use Rattle.std.specs.Prelude.{codes}
 use Rattle.ags_rows.specs.Collecting.{Adds, Notes}
 use Rattle.ags_rows.specs.Contents.{group_contents, fields_of}
 use Rattle.ags_rows.proofs.Lemmas.{adds_found, adds_unmet}
@@ -27,14 +26,12 @@ loop-column-preserved c =
     let column = get_or columns i _ in
     let h = column.heading.now in
     let code = column.code.now in
-    let f0 = c.loop-column.findings in
     let f1 = c.if-is_unfit.findings in
     let f2 = c.if-is_unlisted_unit.findings in
     let f3 = c.if-is_unlisted_abbreviation.findings in
-    let f4 = c.if-is_unlisted_type.findings in
     let are = own_columns _ _ _ _ c.outline.view_is c.as_slice-columns.ensures.value c.outline.invariant.columns in
     let stands : text ≡ column_text column fields = c.cell_at-text.ensures ∙ ap (λ (l : List (List ℕ)). column_text column l) c.as_slice-cells.ensures in
-    let unfit : Adds (Notes line Rule8 h ((text ≢ []) × ¬ (FitsTypeCode code column.unit.now text))) f0 f1 = elim c.if-is_unfit.branch [
+    let unfit : Adds (Notes line Rule8 h ((text ≢ []) × ¬ (FitsTypeCode code column.unit.now text))) c.loop-column.findings f1 = elim c.if-is_unfit.branch [
       | then-is_unfit+in_ok-note w ↦ adds_found (c.is_unfit.ensures.0 w.if-is_unfit.true) (w.findings-is ∙ w.in_ok-note.ensures.noted)
       | else-is_unfit w ↦ adds_unmet w.if-is_unfit.false c.is_unfit.ensures.1 w.findings-is
     ] in
@@ -46,17 +43,17 @@ loop-column-preserved c =
       | then-is_unlisted_abbreviation+in_ok-note-3 w ↦ adds_found (c.is_unlisted_abbreviation.ensures.0 w.if-is_unlisted_abbreviation.true) (w.findings-is ∙ w.in_ok-note-3.ensures.noted)
       | else-is_unlisted_abbreviation w ↦ adds_unmet w.if-is_unlisted_abbreviation.false c.is_unlisted_abbreviation.ensures.1 w.findings-is
     ] in
-    let type : Adds (Notes line Rule17 h ((code ≡ codes "PT") × IsUnlistedType file text)) f3 f4 = elim c.if-is_unlisted_type.branch [
+    let type : Adds (Notes line Rule17 h ((code ≡ codes "PT") × IsUnlistedType file text)) f3 c.if-is_unlisted_type.findings = elim c.if-is_unlisted_type.branch [
       | then-is_unlisted_type+in_ok-note-4 w ↦ adds_found (c.is_unlisted_type.ensures.0 w.if-is_unlisted_type.true) (w.findings-is ∙ w.in_ok-note-4.ensures.noted)
       | else-is_unlisted_type w ↦ adds_unmet w.if-is_unlisted_type.false c.is_unlisted_type.ensures.1 w.findings-is
     ] in
-    entries_more file line (group_contents group) group.headings fields columns i _ text c.args.findings.now f0 f4 are c.loop-column-test.true stands
-    c.loop-column.invariant (entry_noted file line h column.unit.now code text f0 f1 f2 f3 f4 unfit unit abbreviation type)
+    entries_more file line (group_contents group) group.headings fields columns i _ text _ _ _ are c.loop-column-test.true stands
+    c.loop-column.invariant (entry_noted file line h column.unit.now code text _ _ _ _ _ unfit unit abbreviation type)
 
 pub returns : goal.returns
 returns c =
     let group = c.args.outline.now.group in
     let row = c.args.row.now in
     let are = own_columns _ _ _ _ c.outline.view_is c.as_slice-columns.ensures.value c.outline.invariant.columns in
-    columns_all (entry_rules_in c.args.listed.now row.line (group_contents group) (fields_of row)) group.headings c.as_slice-columns.result.now c.loop-column.column-index
-    c.args.findings.now c.loop-column.findings are.heads (omega (arith, c.loop-column-test.false)) c.loop-column.invariant
+    columns_all (entry_rules_in c.args.listed.now row.line (group_contents group) (fields_of row)) group.headings c.as_slice-columns.result.now
+    _ _ _ are.heads c.loop-column-test.false c.loop-column.invariant

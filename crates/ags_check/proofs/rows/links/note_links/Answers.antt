@@ -1,5 +1,5 @@
-use Rattle.std.proofs.Common.{◌≡◌, ◌∙◌, Bool, true, false, not, List, [], ◌∷◌, ℕ, get_or, refl, sym, ap, arith}
-use Rattle.std.proofs.lemmas.Bool.{true≢false}
+use Rattle.std.proofs.Common.{◌≡◌, ◌∙◌, true, false, not, List, [], ◌∷◌, ℕ, get_or, sym, ap}
+use Rattle.std.proofs.lemmas.Bool.{not-true, not-false}
 use Rattle.ags_rows.specs.declared.code.Code.TheVariants.{Rule11c}
 use Rattle.ags_rows.specs.Collecting.{Adds, Notes}
 use Rattle.ags_rows.specs.Contents.{group_contents, fields_of}
@@ -12,14 +12,6 @@ use Rattle.ags_check.proofs.LinkNotes.{link_at, no_links}
 use Rattle.ags_check.proofs.rows.links.note_links.Goals as goal
 use Rattle.ags_check.proofs.rows.links.note_links.Goals.{then-branch+in_ok-note, else-branch}
 
-is_by : (a b : Bool) → a ≡ not b → a ≡ false → b ≡ true
-is_by a true e f = refl
-is_by a false e f = absurd (true≢false (sym e ∙ f))
-
-is_not_by : (a b : Bool) → a ≡ not b → a ≡ true → b ≡ false
-is_not_by a true e f = absurd (true≢false (sym f ∙ e))
-is_not_by a false e f = refl
-
 pub returns-then-not-outline : goal.returns-then-not-outline
 returns-then-not-outline c =
     let file = c.args.index.now in
@@ -27,7 +19,7 @@ returns-then-not-outline c =
     let group = c.args.outline.now.group in
     let same = ap (λ (v : Outlined). not (is_definition v.group.name)) c.outline.view_is in
     no_links file.entries file.contents row.line (group_contents group) (fields_of row) group.headings c.args.findings.now
-    (is_by c.outline.inside.is_data (is_definition group.name) (c.outline.invariant.is_data ∙ same) c.if-not-outline.true)
+    (not-false _ (sym (c.outline.invariant.is_data ∙ same) ∙ c.if-not-outline.true))
 
 pub loop-column-preserved : goal.loop-column-preserved
 loop-column-preserved c =
@@ -41,18 +33,16 @@ loop-column-preserved c =
     let i = c.loop-column.column-index in
     let column = get_or columns i _ in
     let text = c.cell_at-text.result.now in
-    let mid = c.loop-column.findings in
-    let new = c.if-branch.findings in
     let are = own_columns _ _ _ _ c.outline.view_is c.as_slice-columns.ensures.value c.outline.invariant.columns in
     let same = ap (λ (v : Outlined). not (is_definition v.group.name)) c.outline.view_is in
-    let data_group = is_not_by c.outline.inside.is_data (is_definition group.name) (c.outline.invariant.is_data ∙ same) c.if-not-outline.false in
+    let data_group = not-true _ (sym (c.outline.invariant.is_data ∙ same) ∙ c.if-not-outline.false) in
     let stands : text ≡ column_text column fields = c.cell_at-text.ensures ∙ ap (λ (l : List (List ℕ)). column_text column l) c.as_slice-cells.ensures in
     let means = link_at entries file (group_contents group) fields columns i _ text _ are data_group c.loop-column-test.true stands (c.in_ok-is_broken_link.ensures row c.requires) in
-    let here : Adds (Notes line Rule11c column.heading.now (IsBrokenLink entries file row column.heading.now)) mid new = elim c.if-branch.branch [
+    let here : Adds (Notes line Rule11c column.heading.now (IsBrokenLink entries file row column.heading.now)) c.loop-column.findings c.if-branch.findings = elim c.if-branch.branch [
       | then-branch+in_ok-note w ↦ adds_found (means.0 w.if-branch.true) (w.findings-is ∙ w.in_ok-note.ensures.noted)
       | else-branch w ↦ adds_unmet w.if-branch.false means.1 w.findings-is
     ] in
-    columns_more (λ heading. Notes line Rule11c heading (IsBrokenLink entries file row heading) ∷ []) group.headings columns i _ c.args.findings.now mid new are.heads c.loop-column-test.true c.loop-column.invariant (one_rule mid new here)
+    columns_more (λ heading. Notes line Rule11c heading (IsBrokenLink entries file row heading) ∷ []) group.headings columns i _ _ _ _ are.heads c.loop-column-test.true c.loop-column.invariant (one_rule _ _ here)
 
 pub returns : goal.returns
 returns c =
@@ -60,5 +50,5 @@ returns c =
     let group = c.args.outline.now.group in
     let row = c.args.row.now in
     let are = own_columns _ _ _ _ c.outline.view_is c.as_slice-columns.ensures.value c.outline.invariant.columns in
-    columns_all (λ heading. Notes row.line Rule11c heading (IsBrokenLink file.entries file.contents (headed_row group row) heading) ∷ []) group.headings c.as_slice-columns.result.now c.loop-column.column-index
-    c.args.findings.now c.loop-column.findings are.heads (omega (arith, c.loop-column-test.false)) c.loop-column.invariant
+    columns_all (λ heading. Notes row.line Rule11c heading (IsBrokenLink file.entries file.contents (headed_row group row) heading) ∷ []) group.headings c.as_slice-columns.result.now
+    _ _ _ are.heads c.loop-column-test.false c.loop-column.invariant

@@ -1,7 +1,6 @@
-use Rattle.std.proofs.Common.{◌≡◌, true, false, sym, ap, ◌∙◌, List, [], ◌∷◌, ◌++◌, append_assoc, ℕ}
+use Rattle.std.proofs.Common.{◌≡◌, true, false, sym, ap, ◌∙◌, List, ℕ}
 use Rattle.std.specs.List.{list_any, find}
 use Rattle.std.specs.Option.{is_some}
-use Rattle.ags_dict.specs.declared.entries.GroupEntry.{GroupEntry}
 use Rattle.ags_dict.specs.Entries.{same_group}
 use Rattle.ags_dict.specs.Index.{is_for}
 use Rattle.ags_dict.proofs.Found.{found_any, copied_some}
@@ -20,6 +19,4 @@ returns c =
     let found : list_any (same_group c.args.entry) c.args.self ≡ false =
     sym (found_any (same_group c.args.entry) c.args.self) ∙ ap (λ (g : List ℕ). is_some (find (is_for g) c.args.self)) (sym c.as_slice.ensures)
     ∙ copied_some c.find.result _ c.find.ensures ∙ sym c.is_some.ensures ∙ c.if-is_some.false in
-    let more = λ (entries : List GroupEntry). entries ++ c.args.entry ∷ [] in
-    rw (← fresh same_group c.args.self c.args.entry found)
-    (ap (λ (own : List GroupEntry). c.self.inside.shared.value ++ own) c.in_ok-own.ensures ∙ sym (append_assoc c.self.inside.shared.value c.self.inside.own (c.args.entry ∷ [])) ∙ ap more c.self.view_is)
+    fresh same_group c.self.inside.shared.value c.self.inside.own _ c.args.self c.args.entry found c.in_ok-own.ensures c.self.view_is

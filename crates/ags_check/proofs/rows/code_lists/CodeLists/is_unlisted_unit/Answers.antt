@@ -1,12 +1,7 @@
-use Rattle.std.proofs.Common.{List, subst}
-use Rattle.std.specs.Prelude.{◌↔◌, IsTrue, codes}
-use Rattle.ags_rows.specs.Contents.{Contents, contents_of}
-use Rattle.ags_check.specs.RowRules.{IsUnlisted}
+use Rattle.std.proofs.Common.{codes}
+use Rattle.ags_rows.specs.Contents.{contents_of}
 use Rattle.ags_check.proofs.Listings.{unlisted_by}
 use Rattle.ags_check.proofs.rows.code_lists.CodeLists.is_unlisted_unit.Goals as goal
 
 pub returns : goal.returns
-returns c =
-    subst (λ (file : List Contents). IsTrue c.is_unlisted.result ↔ IsUnlisted file (codes "UNIT") (codes "UNIT_UNIT") c.args.unit.now) c.self.view_is
-    (unlisted_by (contents_of c.self.inside.groups.now) (codes "UNIT") (codes "UNIT_UNIT") c.args.unit.now c.self.inside.units c.is_unlisted.result
-    c.self.invariant.units c.is_unlisted.ensures)
+returns c = rw (← c.self.view_is) (unlisted_by (contents_of c.self.inside.groups.now) (codes "UNIT") (codes "UNIT_UNIT") _ c.self.inside.units _ c.self.invariant.units c.is_unlisted.ensures)

@@ -1,5 +1,4 @@
-use Rattle.std.proofs.Common.{◌≡◌, ◌∙◌, true, ap, sym}
-use Rattle.std.specs.Prelude.{is_some}
+use Rattle.std.proofs.Common.{◌≡◌, ◌∙◌, true, ap, sym, is_some}
 use Rattle.ags_dict.specs.Entries.{Entries, parent_of}
 use Rattle.ags_check.specs.Columns.{Outlined}
 use Rattle.ags_check.proofs.RowNotes.{parent_means}

@@ -1,6 +1,5 @@
-use Rattle.std.proofs.Common.{◌≡◌, ℕ, List, not, ◌&&◌, sym, ap, ◌∙◌}
+use Rattle.std.proofs.Common.{◌≡◌, ℕ, List, not, ◌&&◌, sym, ap, ◌∙◌, take_all}
 use Rattle.std.specs.List.{list_any}
-use Rattle.std.proofs.lemmas.List.{take_all}
 use Rattle.std.proofs.lemmas.List.Folds.{list_any_at}
 use Rattle.ags_dict.specs.declared.entries.HeadingEntry.{HeadingEntry}
 use Rattle.ags_dict.specs.Index.{of_group, is_named, is_of_other, ArePlaces}

@@ -1,7 +1,6 @@
-use Rattle.std.proofs.Common.{List, ◌++◌, Option, Bor, Vec, Global, map, slice_get, sym, ap, ◌∙◌}
+use Rattle.std.proofs.Common.{List, ◌++◌, Option, Bor, Vec, Global, map, slice_get, sym, ap, ◌∙◌, append-nil, take_all}
 use Rattle.std.specs.List.{filter, filter_map}
 use Rattle.std.specs.Option.{option_to_list}
-use Rattle.std.proofs.lemmas.List.{append-nil, take_all}
 use Rattle.ags_dict.specs.declared.entries.HeadingEntry.{HeadingEntry}
 use Rattle.ags_dict.specs.Index.{group_places, of_group}
 use Rattle.ags_dict.proofs.Found.{leads_more, place_all}
@@ -12,7 +11,7 @@ pub loop-place-preserved : goal.loop-place-preserved
 loop-place-preserved c =
     let places = c.of-place-items.result.now in
     let found = c.loop-place.found.items in
-    let values = λ (l : List (Bor HeadingEntry)). map (λ (e : Bor HeadingEntry). e.now) l in
+    let values : List (Bor HeadingEntry) → List HeadingEntry = map (λ e. e.now) in
     let all = leads_more c.args.self.now places c.loop-place.place-index found c.at.result c.loop-place-test.true c.at.ensures c.loop-place.invariant in
     elim c.match-at.branch [
       | in-Some+in_ok-push w ↦
