@@ -1,4 +1,4 @@
--- A deposit with a receipt is held from then on, and one that was answered as withdrawn has its mark, whatever a crash
+-- A deposit with a receipt is held from then on, and one that was answered as withdrawn is withdrawn, whatever a crash
 -- leaves.
 use Rattle.std.proofs.Common.{◌≡◌, ◌≢◌, ℕ, zero, suc, ◌+◌, Bool, true, false, cond, Option, Some, None, List, [], ◌∷◌, ◌++◌, length, refl, sym, ap, subst, ◌∙◌, inl, inr, ◌⊎◌, arith}
 use Rattle.std.specs.Prelude.{ℤ, nat_lt, slice_get, MatchBool, option_map}
@@ -8,7 +8,7 @@ use Rattle.reg_policy.specs.declared.rule.Rule.{Rule}
 use Rattle.reg_policy.specs.declared.callers.Caller.{Caller}
 use Rattle.reg_policy.specs.declared.subject.Verb.TheVariants as verbs
 use Rattle.reg_store.specs.Sent.{Sent}
-use Rattle.reg_store.specs.Deposit.{Deposit, sents, unmarked, mark, marked}
+use Rattle.reg_store.specs.Deposit.{Deposit, sents, new_deposit, as_withdrawn, with_withdrawn}
 use Rattle.reg_store.proofs.Lemmas.{sent_at, deposit_at}
 use Rattle.reg_store.specs.declared.keep.Keep.{Ghosts}
 use Rattle.reg_desk.specs.Asked.{Asked, deposit, withdraw}
@@ -17,14 +17,14 @@ use Rattle.reg_desk.specs.declared.answer.Answer.TheVariants.{Receipt, Full, NoM
 use Rattle.reg_desk.specs.Machine.{Terms, decided, first_equal, receipt_of, held, IsReply, asked_deposit, Changes, IsNext}
 use Rattle.reg_desk.specs.Serving.{is_failed, IsAnswer, IsAfter, terms_at}
 use Rattle.reg_desk.specs.Running.{AreFailed, AreAnswers, failing, Runs, IsHeldIn}
-use Rattle.reg_desk.specs.Laws.{WithdrawnIsMarked}
+use Rattle.reg_desk.specs.Laws.{WithdrawnIsRecorded}
 use Rattle.reg_desk.proofs.Firsts.{first_at}
 use Rattle.reg_desk.proofs.ModelAnswers.{all_failed}
 use Rattle.reg_desk.proofs.Taken.{not_refused, taken_received, withdrawn_own}
 
--- ---- a list that grew, and in which more may be marked
+-- ---- a list that grew, and in which more may be withdrawn
 
--- what is held there is what was sent here, with the mark if it has it here
+-- what is held there is what was sent here, and withdrawn if it is so here
 abbrev pub Keeps : Deposit → Option Deposit → Type 0
 Keeps d held = (e : Deposit) × (held ≡ Some e) × (e.sent ≡ d.sent) × (d.withdrawn ≡ true → e.withdrawn ≡ true)
 
@@ -42,21 +42,21 @@ append_grows [] more i d at = absurd cc
 append_grows (k ∷ state) more zero d at = (d, at, refl, λ is. is)
 append_grows (k ∷ state) more (suc i) d at = append_grows state more i d at
 
-marked_grows : (n : ℕ) (state : List Deposit) → Grows state (marked n state)
-marked_grows n [] i d at = absurd cc
-marked_grows zero (k ∷ state) i d at = (d, at, refl, λ is. is)
-marked_grows (suc zero) (k ∷ state) zero d at =
-    (mark k, refl, ap (λ (x : Deposit). x.sent) (same_Some k d at), λ is. refl)
-marked_grows (suc zero) (k ∷ state) (suc i) d at = (d, at, refl, λ is. is)
-marked_grows (suc (suc n)) (k ∷ state) zero d at = (d, at, refl, λ is. is)
-marked_grows (suc (suc n)) (k ∷ state) (suc i) d at = marked_grows (suc n) state i d at
+withdrawn_grows : (n : ℕ) (state : List Deposit) → Grows state (with_withdrawn n state)
+withdrawn_grows n [] i d at = absurd cc
+withdrawn_grows zero (k ∷ state) i d at = (d, at, refl, λ is. is)
+withdrawn_grows (suc zero) (k ∷ state) zero d at =
+    (as_withdrawn k, refl, ap (λ (x : Deposit). x.sent) (same_Some k d at), λ is. refl)
+withdrawn_grows (suc zero) (k ∷ state) (suc i) d at = (d, at, refl, λ is. is)
+withdrawn_grows (suc (suc n)) (k ∷ state) zero d at = (d, at, refl, λ is. is)
+withdrawn_grows (suc (suc n)) (k ∷ state) (suc i) d at = withdrawn_grows (suc n) state i d at
 
 changes_grow : (terms : Terms) (request : Asked) (state list : List Deposit) → Changes terms state request list
     → Grows state list
 changes_grow terms (deposit caller project embargo bytes day) state list h =
-    subst (Grows state) (sym h.1) (append_grows state (unmarked (asked_deposit caller project embargo bytes) ∷ []))
+    subst (Grows state) (sym h.1) (append_grows state (new_deposit (asked_deposit caller project embargo bytes) ∷ []))
 changes_grow terms (withdraw caller project number day) state list h =
-    subst (Grows state) (sym h.1) (marked_grows number state)
+    subst (Grows state) (sym h.1) (withdrawn_grows number state)
 changes_grow terms request state list h = absurd h
 
 pub next_grows : (terms : Terms) (request : Asked) (state next : List Deposit) → IsNext terms state request next
@@ -98,7 +98,7 @@ receipt_held terms caller project embargo bytes day state next n e is (inl h) =
     let received = (taken_received terms state caller project embargo bytes day (Receipt n e) is).0 h.0 in
     let fields = receipt_fields n (length state + 1) e embargo received in
     let number : n ≡ suc (length state) = omega (arith, fields.0) in
-    let new = unmarked (asked_deposit caller project embargo bytes) in
+    let new = new_deposit (asked_deposit caller project embargo bytes) in
     ap (λ (l : List Deposit). held n (sents l)) h.1 ∙ ap (λ (k : ℕ). held k (sents (state ++ new ∷ []))) number
     ∙ get_last state new
     ∙ ap (λ (x : ℤ). Some (asked_deposit caller project x bytes)) (sym fields.1)
@@ -117,32 +117,32 @@ receipt_held terms caller project embargo bytes day state next n e is (inr h) =
 
 -- ---- a withdrawal
 
--- the mark of deposit n
-abbrev pub mark_at : ℕ → List Deposit → Option Bool
-mark_at n list = option_map (λ (e : Deposit). e.withdrawn) (held n list)
+-- whether deposit n is withdrawn
+abbrev pub withdrawn_at : ℕ → List Deposit → Option Bool
+withdrawn_at n list = option_map (λ (e : Deposit). e.withdrawn) (held n list)
 
-marked_held : (n : ℕ) (state : List Deposit) (d : Deposit) → held n state ≡ Some d
-    → held n (marked n state) ≡ Some (mark d)
-marked_held zero state d at = absurd cc
-marked_held (suc n) [] d at = absurd cc
-marked_held (suc zero) (k ∷ state) d at = ap (λ (x : Deposit). Some (mark x)) (same_Some k d at)
-marked_held (suc (suc n)) (k ∷ state) d at = marked_held (suc n) state d at
+held_withdrawn : (n : ℕ) (state : List Deposit) (d : Deposit) → held n state ≡ Some d
+    → held n (with_withdrawn n state) ≡ Some (as_withdrawn d)
+held_withdrawn zero state d at = absurd cc
+held_withdrawn (suc n) [] d at = absurd cc
+held_withdrawn (suc zero) (k ∷ state) d at = ap (λ (x : Deposit). Some (as_withdrawn x)) (same_Some k d at)
+held_withdrawn (suc (suc n)) (k ∷ state) d at = held_withdrawn (suc n) state d at
 
-pub withdrawn_marked : WithdrawnIsMarked
-withdrawn_marked terms state next caller project number day is step =
+pub withdrawn_recorded : WithdrawnIsRecorded
+withdrawn_recorded terms state next caller project number day is step =
     let own = (withdrawn_own terms state caller project number day number is).1 in
-    let same : next ≡ marked number state = elim step [ inl h ↦ h.1 | inr h ↦ absurd (h.0 _ (own, refl)) ] in
-    (own.1.0, own.1.1, ap (held number) same ∙ marked_held number state own.1.0 own.1.1)
+    let same : next ≡ with_withdrawn number state = elim step [ inl h ↦ h.1 | inr h ↦ absurd (h.0 _ (own, refl)) ] in
+    (own.1.0, own.1.1, ap (held number) same ∙ held_withdrawn number state own.1.0 own.1.1)
 
 withdrawn_held : (terms : Terms) (caller : Caller) (project : List ℕ) (number : ℕ) (day : ℤ)
     (state next : List Deposit) (n : ℕ) → IsReply terms state (withdraw caller project number day) (Withdrawn n)
-    → IsNext terms state (withdraw caller project number day) next → mark_at n next ≡ Some true
+    → IsNext terms state (withdraw caller project number day) next → withdrawn_at n next ≡ Some true
 withdrawn_held terms caller project number day state next n is step =
     let own = (withdrawn_own terms state caller project number day n is).0 in
     let asked = withdraw caller project number day in
     let here = subst (λ (m : ℕ). IsReply terms state asked (Withdrawn m)) (sym own) is in
-    let has = withdrawn_marked terms state next caller project number day here step in
-    ap (λ (m : ℕ). mark_at m next) (sym own) ∙ ap (option_map (λ (d : Deposit). d.withdrawn)) has.2
+    let has = withdrawn_recorded terms state next caller project number day here step in
+    ap (λ (m : ℕ). withdrawn_at m next) (sym own) ∙ ap (option_map (λ (d : Deposit). d.withdrawn)) has.2
 
 -- ---- the answers to a list
 
@@ -154,10 +154,10 @@ sent_then (suc i) state list d grows at =
     let kept = grows i of.0 of.1 in
     sent_at list i kept.0 kept.1 ∙ ap (λ (x : Sent). Some x) (kept.2 ∙ of.2)
 
-mark_then : (n : ℕ) (state list : List Deposit) → Grows state list → mark_at n state ≡ Some true
-    → mark_at n list ≡ Some true
-mark_then zero state list grows is = absurd cc
-mark_then (suc i) state list grows is = by (slice_get state i) refl is
+withdrawn_then : (n : ℕ) (state list : List Deposit) → Grows state list → withdrawn_at n state ≡ Some true
+    → withdrawn_at n list ≡ Some true
+withdrawn_then zero state list grows is = absurd cc
+withdrawn_then (suc i) state list grows is = by (slice_get state i) refl is
   where
     by : (o : Option Deposit) → slice_get state i ≡ o → option_map (λ (e : Deposit). e.withdrawn) o ≡ Some true
         → option_map (λ (e : Deposit). e.withdrawn) (slice_get list i) ≡ Some true
@@ -171,7 +171,7 @@ held_then : (state list : List Deposit) (request : Asked) (a : Answer) → Grows
     → IsHeldIn list request a
 held_then state list (deposit caller project embargo bytes day) (Receipt n e) grows h =
     sent_then n state list (asked_deposit caller project e bytes) grows h
-held_then state list (withdraw caller project number day) (Withdrawn n) grows h = mark_then n state list grows h
+held_then state list (withdraw caller project number day) (Withdrawn n) grows h = withdrawn_then n state list grows h
 held_then state list request a grows h = tt
 
 held_next : (terms : Terms) (state next : List Deposit) (request : Asked) (a : Answer) → IsAnswer terms state request a
@@ -232,4 +232,4 @@ pub receipts_last : {K : Type 0} (keep : Ghosts K) (rules : List Rule) (old new 
 receipts_last keep rules old new requests answers runs bytes list may =
     let terms = terms_at keep rules old in
     let grows = left_grows terms requests answers runs.last list (runs.left bytes list may).1 in
-    (lasts terms (keep.deposits old) requests answers runs.last list runs.answered grows).1
+    (lasts terms (keep.deposits old) requests answers runs.last list runs.are_answers grows).1

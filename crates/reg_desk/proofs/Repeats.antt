@@ -11,7 +11,7 @@ use Rattle.reg_policy.specs.declared.callers.Caller.{Caller}
 use Rattle.reg_policy.specs.declared.subject.Decision.{Decision}
 use Rattle.reg_policy.specs.declared.subject.Verb.TheVariants as verbs
 use Rattle.reg_store.specs.Sent.{Sent, is_repeat}
-use Rattle.reg_store.specs.Deposit.{Deposit, sents, sents_marked, unmarked}
+use Rattle.reg_store.specs.Deposit.{Deposit, sents, sents_with_withdrawn, new_deposit}
 use Rattle.reg_desk.specs.Asked.{Asked, deposit, withdraw}
 use Rattle.reg_desk.specs.declared.answer.Answer.{Answer}
 use Rattle.reg_desk.specs.declared.answer.Answer.TheVariants.{NoMemory, Receipt, StoreFailed}
@@ -80,10 +80,10 @@ stays_first terms request state next firm project bytes p (inr h) first =
     ap (λ (l : List Deposit). first_equal 1 firm project bytes (sents l)) h.1 ∙ first
 stays_first terms (deposit caller of embargo body day) state next firm project bytes p (inl h) first =
     ap (λ (l : List Deposit). first_equal 1 firm project bytes (sents l)) h.1
-    ∙ first_stays 1 firm project bytes state (unmarked (asked_deposit caller of embargo body)) p first
+    ∙ first_stays 1 firm project bytes state (new_deposit (asked_deposit caller of embargo body)) p first
 stays_first terms (withdraw caller of number day) state next firm project bytes p (inl h) first =
     ap (λ (l : List Deposit). first_equal 1 firm project bytes (sents l)) h.1
-    ∙ ap (λ (l : List Sent). first_equal 1 firm project bytes l) (sents_marked number state) ∙ first
+    ∙ ap (λ (l : List Sent). first_equal 1 firm project bytes l) (sents_with_withdrawn number state) ∙ first
 stays_first terms request state next firm project bytes p (inl h) first = absurd h
 
 -- ---- a receipt
@@ -112,7 +112,7 @@ received terms caller project embargo bytes day state next n e is step =
       first = elim step [
         | inl h ↦
             let fields = receipt_fields n (length state + 1) e embargo (law.0 h.0) in
-            let new = unmarked (asked_deposit caller project embargo bytes) in
+            let new = new_deposit (asked_deposit caller project embargo bytes) in
             let place : 1 + length state ≡ n = omega (arith, fields.0) in
             ap First h.1
             ∙ first_last 1 caller.firm project bytes state new (repeats_itself caller project embargo bytes) h.0.3

@@ -17,7 +17,7 @@ use Rattle.ags_check.specs.Findings.{CheckedFile}
 use Rattle.reg_store.specs.declared.keep.KeptRow.{KeptRow}
 use Rattle.reg_store.specs.Fit.{kept_row, group_rows, kept_rows}
 use Rattle.reg_desk.specs.Extract.{IsOfRows, IsRowOrEmpty}
-use Rattle.reg_desk.specs.View.{AreRows, IsSpelledRow, IsViewOf, is_written, line_end, line_where, plain_lines, separator, text_from, with_group}
+use Rattle.reg_desk.specs.View.{AreFileRows, IsSpelledRow, IsViewOf, is_written, line_end, line_where, plain_lines, separator, text_from, with_group}
 use Rattle.reg_store.proofs.Lemmas.{kept_contents}
 use Rattle.reg_desk.proofs.Bridges.{lines_count, lines_spelled, row_spelled}
 
@@ -99,11 +99,11 @@ pub kept_are : (bytes : List ℕ) (groups : List Group) → FileGroups bytes gro
 kept_are bytes groups read = subst (λ (rows : List KeptRow). All IsSpelledRow rows) (sym (kept_contents groups)) (file_are (contents_of groups) (read_plain bytes groups read).1)
 
 -- the rows of a view are a file's
-pub not_broken : (rows : List KeptRow) (graph : StepGraph) (file : CheckedFile) → IsViewOf rows graph file → (AreRows rows → length (plain_lines [] [] rows) ≢ graph.rows) → ⊥
+pub not_broken : (rows : List KeptRow) (graph : StepGraph) (file : CheckedFile) → IsViewOf rows graph file → (AreFileRows rows → length (plain_lines [] [] rows) ≢ graph.rows) → ⊥
 not_broken rows graph file view broken =
-    let are : AreRows (kept_rows file.groups) = record {
+    let are : AreFileRows (kept_rows file.groups) = record {
       spelled = kept_are file.bytes file.groups view.clean.groups;
       found = data_rows (contents_of file.groups);
       lines = lines_spelled file.bytes file.groups view.clean.groups;
     } in
-    broken (subst AreRows (sym view.same_rows) are) (lines_count rows graph file view)
+    broken (subst AreFileRows (sym view.same_rows) are) (lines_count rows graph file view)

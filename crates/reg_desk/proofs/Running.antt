@@ -58,8 +58,8 @@ runs_fail keep rules old new r a requests answers settled unbroken works sound f
     let this_fails : failing (r ∷ requests) (a ∷ answers) ≡ Some r = first_fails (is_failed a) fails (find (λ p. is_failed p.1) (zip requests answers)) in
     record {
       last = keep.deposits old;
-      answered = (is, where_true (is_failed a) _ _ fails (refl, failed));
-      kept = λ e. absurd (some_none (sym this_fails ∙ e));
+      are_answers = (is, where_true (is_failed a) _ _ fails (refl, failed));
+      final = λ e. absurd (some_none (sym this_fails ∙ e));
       left = λ bytes list may.
           elim (serves.crash sound bytes list may) [
             | inl was ↦ let own = settled old bytes list (serves.sound sound) works was in (own.0, inl own.1)
@@ -83,11 +83,11 @@ runs_on keep rules old mid new r a requests answers sound lives serves is rest =
     let later : failing (r ∷ requests) (a ∷ answers) ≡ failing requests answers = skip (is_failed a) lives (find (λ p. is_failed p.1) (zip requests answers)) in
     record {
       last = rest.last;
-      answered = (
+      are_answers = (
         is,
-        where_false (is_failed a) _ _ lives (keep.deposits mid, serves.kept sound, subst (λ (g : Terms). AreAnswers g (keep.deposits mid) requests answers rest.last) terms rest.answered),
+        where_false (is_failed a) _ _ lives (keep.deposits mid, serves.after sound, subst (λ (g : Terms). AreAnswers g (keep.deposits mid) requests answers rest.last) terms rest.are_answers),
       );
-      kept = λ e. rest.kept (sym later ∙ e);
+      final = λ e. rest.final (sym later ∙ e);
       left = λ bytes list may.
           let then = rest.left bytes list may in (
             then.0 ∙ serves.same_text sound lives,
@@ -109,12 +109,12 @@ desk_runs {K = K} keep old new [] [] settled unbroken by sound works =
     let was = was_sound keep old new [] [] by sound in
     let fine : keep.has_failed old.keep ≡ false = sym (old.exact was) ∙ works in
     subst (λ (d : Desk K keep). ∥ Runs keep old.policy old.keep d.keep [] [] ∥₁) (sym by)
-    ∣ record { last = keep.deposits old.keep; answered = refl; kept = λ e. refl; left = λ bytes list may. (let own = settled old.keep bytes list was fine may in (own.0, inl own.1)); whole = unbroken old.keep was fine } ∣₁
+    ∣ record { last = keep.deposits old.keep; are_answers = refl; final = λ e. refl; left = λ bytes list may. (let own = settled old.keep bytes list was fine may in (own.0, inl own.1)); whole = unbroken old.keep was fine } ∣₁
 desk_runs {K = K} keep old new (r ∷ requests) (a ∷ answers) settled unbroken by sound works =
     let mid = by.0 in
     let then_sound = was_sound keep mid new requests answers by.2 sound in
     let serves = by.1.served works in
-    ∥∥₁_elim (serves.answered then_sound) (Prim.hlevel props) (λ (is : IsAnswer (terms_at keep old.policy old.keep) (keep.deposits old.keep) r a).
+    ∥∥₁_elim (serves.is_answer then_sound) (Prim.hlevel props) (λ (is : IsAnswer (terms_at keep old.policy old.keep) (keep.deposits old.keep) r a).
     elim (cases_Bool (is_failed a)) [
       | inl fails ↦
           let stuck = stays_failed keep mid new requests answers by.2 (by.1.failed ∙ fails) in

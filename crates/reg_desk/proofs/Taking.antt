@@ -12,7 +12,7 @@ use Rattle.reg_policy.specs.declared.subject.Decision.{Decision}
 use Rattle.reg_policy.specs.declared.subject.Decision.TheVariants.{Permit}
 use Rattle.reg_policy.specs.declared.subject.Verb.TheVariants as verbs
 use Rattle.reg_store.specs.Sent.{Sent, number_of}
-use Rattle.reg_store.specs.Deposit.{Deposit, sents, unmarked}
+use Rattle.reg_store.specs.Deposit.{Deposit, sents, new_deposit}
 use Rattle.reg_store.proofs.Lemmas.{length_sents, deposit_at}
 use Rattle.reg_store.specs.Keep.{is_store, IsHeadOf}
 use Rattle.reg_store.specs.declared.keep.Keep.{Ghosts}
@@ -103,7 +103,7 @@ is_taken keep rules caller project bytes day old mid fine reads unheld room s =
 
 -- the call that appends the deposit
 abbrev pub Appends : {K : Type 0} → Ghosts K → Sent → K → K → Result ℕ KeepError → Type 0
-Appends keep d old new result = Makes keep (keep.deposits old ++ unmarked d ∷ []) old new result
+Appends keep d old new result = Makes keep (keep.deposits old ++ new_deposit d ∷ []) old new result
 
 module _ {K : Type 0} (keep : Ghosts K) (rules : List Rule) (caller : Caller) (project : List ℕ) (embargo : ℤ) (bytes : List ℕ) (day : ℤ) (old : K) where
   abbrev terms : Terms
@@ -160,11 +160,11 @@ module _ {K : Type 0} (keep : Ghosts K) (rules : List Rule) (caller : Caller) (p
   appending : (mid new : K) (result : Result ℕ KeepError) → IsFine terms caller project bytes day → OnlyReads keep old mid false
       → (keep.is_sound mid → IsTaken terms state caller project bytes day)
       → Appends keep (asked_deposit caller project embargo bytes) mid new result
-      → IsMaking keep rules request old mid new (keep.deposits mid ++ unmarked (asked_deposit caller project embargo bytes) ∷ []) result
+      → IsMaking keep rules request old mid new (keep.deposits mid ++ new_deposit (asked_deposit caller project embargo bytes) ∷ []) result
   appending mid new result fine reads taken appends = record {
     reads = reads;
     makes = appends;
-    change = λ s. (taken s, ap (λ (l : List Deposit). l ++ unmarked (asked_deposit caller project embargo bytes) ∷ []) (reads.same s refl));
+    change = λ s. (taken s, ap (λ (l : List Deposit). l ++ new_deposit (asked_deposit caller project embargo bytes) ∷ []) (reads.same s refl));
     asks = fine_asks fine;
   }
 
@@ -173,7 +173,7 @@ module _ {K : Type 0} (keep : Ghosts K) (rules : List Rule) (caller : Caller) (p
       → Appends keep (asked_deposit caller project embargo bytes) mid new (Ok n) → (keep.is_sound new → n ≡ length (keep.deposits new))
       → Serves keep rules request old new (Receipt n embargo)
   deposit_added mid new n fine reads taken appends number =
-      let d = unmarked (asked_deposit caller project embargo bytes) in
+      let d = new_deposit (asked_deposit caller project embargo bytes) in
       let count : keep.is_sound new → n ≡ length state + 1 = λ s.
       let same = ap length (reads.same (appends.sound s) refl) in
       omega (arith, number s, ap length (appends.added s), length-append (keep.deposits mid) (d ∷ []), same) in
@@ -200,7 +200,7 @@ module _ {K : Type 0} (keep : Ghosts K) (rules : List Rule) (caller : Caller) (p
       → (keep.is_sound new → e ≡ errors.Full → length (keep.deposits mid) ≡ keep.limit mid)
       → Serves keep rules request old new (answer_of e)
   deposit_unadded mid new e fine reads taken appends full =
-      unmade_serves keep rules request old mid new (keep.deposits mid ++ unmarked (asked_deposit caller project embargo bytes) ∷ []) e
+      unmade_serves keep rules request old mid new (keep.deposits mid ++ new_deposit (asked_deposit caller project embargo bytes) ∷ []) e
       (appending mid new (Err e) fine reads taken appends)
       (λ s is.
       let then = appends.sound s in

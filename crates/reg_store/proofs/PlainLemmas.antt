@@ -21,7 +21,7 @@ use Rattle.reg_store.specs.declared.keep.HeadedRow.{HeadedRow}
 use Rattle.reg_store.specs.Project.{AreProjectRows, headed_rows}
 use Rattle.reg_store.specs.Keep.{deposit_of, sent_of}
 use Rattle.reg_store.specs.Sent.{Sent, numbers_from}
-use Rattle.reg_store.specs.Deposit.{Deposit, sents, mark, marked, sents_marked}
+use Rattle.reg_store.specs.Deposit.{Deposit, sents, as_withdrawn, with_withdrawn, sents_with_withdrawn}
 use Rattle.reg_store.specs.Fit.{IsFit, IsFileOf, kept_rows}
 use Rattle.reg_store.specs.PlainLaws.{fit_of}
 use Rattle.reg_store.proofs.ProjectLemmas.{headed_count}
@@ -84,21 +84,21 @@ kept_is_sent kept k one d is there = kept_is sent_of kept k one d is (ap (λ (li
 pub kept_at : (kept : List Kept) (k : ℕ) (one : Kept) → k < length kept → one ≡ get_or kept k one → slice_get (map deposit_of kept) k ≡ Some (deposit_of one)
 kept_at kept k one low is = slice_get-map deposit_of kept k ∙ ap (option_map deposit_of) (slice_get_read kept (length kept) k one refl low is)
 
-marked_place : (kept : List Kept) (k : ℕ) (one new : Kept) → one ≡ get_or kept k one → deposit_of new ≡ mark (deposit_of one) → map deposit_of (slice_set kept k new) ≡ marked (suc k) (map deposit_of kept)
-marked_place [] k one new is said = refl
-marked_place (x ∷ kept) zero one new is said = ap (λ (d : Deposit). d ∷ map deposit_of kept) (said ∙ ap (λ (y : Kept). mark (deposit_of y)) is)
-marked_place (x ∷ kept) (suc k) one new is said = ap (λ (rest : List Deposit). deposit_of x ∷ rest) (marked_place kept k one new is said)
+withdrawn_place : (kept : List Kept) (k : ℕ) (one new : Kept) → one ≡ get_or kept k one → deposit_of new ≡ as_withdrawn (deposit_of one) → map deposit_of (slice_set kept k new) ≡ with_withdrawn (suc k) (map deposit_of kept)
+withdrawn_place [] k one new is said = refl
+withdrawn_place (x ∷ kept) zero one new is said = ap (λ (d : Deposit). d ∷ map deposit_of kept) (said ∙ ap (λ (y : Kept). as_withdrawn (deposit_of y)) is)
+withdrawn_place (x ∷ kept) (suc k) one new is said = ap (λ (rest : List Deposit). deposit_of x ∷ rest) (withdrawn_place kept k one new is said)
 
--- one of them is marked
-pub kept_marked : (kept : List Kept) (n : ℕ) (one new : Kept) → 0 < n → one ≡ get_or kept (n - 1) one → deposit_of new ≡ mark (deposit_of one) → map deposit_of (slice_set kept (n - 1) new) ≡ marked n (map deposit_of kept)
-kept_marked kept n one new low is said =
+-- one of them is withdrawn
+pub kept_withdrawn : (kept : List Kept) (n : ℕ) (one new : Kept) → 0 < n → one ≡ get_or kept (n - 1) one → deposit_of new ≡ as_withdrawn (deposit_of one) → map deposit_of (slice_set kept (n - 1) new) ≡ with_withdrawn n (map deposit_of kept)
+kept_withdrawn kept n one new low is said =
     let number : suc (n - 1) ≡ n = omega (arith, low) in
-    marked_place kept (n - 1) one new is said ∙ ap (λ (m : ℕ). marked m (map deposit_of kept)) number
+    withdrawn_place kept (n - 1) one new is said ∙ ap (λ (m : ℕ). with_withdrawn m (map deposit_of kept)) number
 
--- a mark leaves them fit
-pub marked_fit : (dictionary : Entries) (old new : List Kept) (n : ℕ) → map deposit_of new ≡ marked n (map deposit_of old) → ∥ All (IsFit dictionary) (sents (map deposit_of old)) ∥₁ → ∥ All (IsFit dictionary) (sents (map deposit_of new)) ∥₁
-marked_fit dictionary old new n is all =
-    subst (λ (list : List Sent). ∥ All (IsFit dictionary) list ∥₁) (sym (ap sents is ∙ sents_marked n (map deposit_of old))) all
+-- a withdrawal leaves them fit
+pub withdrawn_fit : (dictionary : Entries) (old new : List Kept) (n : ℕ) → map deposit_of new ≡ with_withdrawn n (map deposit_of old) → ∥ All (IsFit dictionary) (sents (map deposit_of old)) ∥₁ → ∥ All (IsFit dictionary) (sents (map deposit_of new)) ∥₁
+withdrawn_fit dictionary old new n is all =
+    subst (λ (list : List Sent). ∥ All (IsFit dictionary) list ∥₁) (sym (ap sents is ∙ sents_with_withdrawn n (map deposit_of old))) all
 
 -- ---- the numbers of a project's deposits
 
