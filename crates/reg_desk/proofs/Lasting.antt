@@ -1,7 +1,7 @@
 -- A deposit with a receipt is held from then on, and one that was answered as withdrawn is withdrawn, whatever a crash
 -- leaves.
-use Rattle.std.proofs.Common.{◌≡◌, ◌≢◌, ℕ, zero, suc, ◌+◌, Bool, true, false, cond, Option, Some, None, List, [], ◌∷◌, ◌++◌, length, refl, sym, ap, subst, ◌∙◌, inl, inr, ◌⊎◌, arith}
-use Rattle.std.specs.Prelude.{ℤ, nat_lt, slice_get, MatchBool, option_map}
+use Rattle.std.proofs.Common.{◌≡◌, ◌≢◌, ℕ, zero, suc, ◌+◌, Bool, true, false, cond, Option, Some, None, List, [], ◌∷◌, ◌++◌, length, refl, sym, ap, subst, ◌∙◌, inl, inr, arith}
+use Rattle.std.specs.Prelude.{ℤ, nat_lt, slice_get, option_map}
 use Rattle.std.specs.List.{AllZip}
 use Rattle.std.proofs.lemmas.Option.{same_Some}
 use Rattle.reg_policy.specs.declared.rule.Rule.{Rule}
@@ -15,12 +15,11 @@ use Rattle.reg_desk.specs.Asked.{Asked, deposit, withdraw}
 use Rattle.reg_desk.specs.declared.answer.Answer.{Answer}
 use Rattle.reg_desk.specs.declared.answer.Answer.TheVariants.{Receipt, Full, NoMemory, StoreFailed, Withdrawn}
 use Rattle.reg_desk.specs.Machine.{Terms, decided, first_equal, receipt_of, held, IsReply, asked_deposit, Changes, IsNext}
-use Rattle.reg_desk.specs.Serving.{is_failed, IsAnswer, IsAfter, terms_at}
-use Rattle.reg_desk.specs.Running.{AreFailed, AreAnswers, failing, Runs, IsHeldIn}
-use Rattle.reg_desk.specs.Laws.{WithdrawnIsRecorded}
-use Rattle.reg_desk.proofs.Firsts.{first_at}
-use Rattle.reg_desk.proofs.ModelAnswers.{all_failed}
-use Rattle.reg_desk.proofs.Taken.{not_refused, taken_received, withdrawn_own}
+use Rattle.reg_desk.specs.Serving.{terms_at}
+use Rattle.reg_desk.specs.Running.{AreAnswers, Runs, IsHeldIn}
+use Rattle.reg_desk.specs.Laws.{IsModelAnswer, WithdrawnIsRecorded}
+use Rattle.reg_desk.proofs.ModelAnswers.{all_failed, first_answer}
+use Rattle.reg_desk.proofs.Taken.{not_refused, taken_received, withdrawn_own, first_at}
 
 -- ---- a list that grew, and in which more may be withdrawn
 
@@ -63,13 +62,6 @@ pub next_grows : (terms : Terms) (request : Asked) (state next : List Deposit) �
     → Grows state next
 next_grows terms request state next (inl h) = changes_grow terms request state next h
 next_grows terms request state next (inr h) = grows_itself state next h.1
-
-after_grows : (terms : Terms) (request : Asked) (state next : List Deposit) (a : Answer) → is_failed a ≡ false
-    → IsAfter terms state request a next → Grows state next
-unfolding IsAfter
-after_grows terms request state next NoMemory lives h = grows_itself state next h
-after_grows terms request state next StoreFailed lives h = absurd cc
-after_grows terms request state next a lives h = next_grows terms request state next h
 
 -- ---- a receipt
 
@@ -174,62 +166,48 @@ held_then state list (deposit caller project embargo bytes day) (Receipt n e) gr
 held_then state list (withdraw caller project number day) (Withdrawn n) grows h = withdrawn_then n state list grows h
 held_then state list request a grows h = tt
 
-held_next : (terms : Terms) (state next : List Deposit) (request : Asked) (a : Answer) → IsAnswer terms state request a
-    → IsAfter terms state request a next → IsHeldIn next request a
-unfolding IsAnswer IsAfter
-held_next terms state next (deposit caller project embargo bytes day) (Receipt n e) is after =
-    receipt_held terms caller project embargo bytes day state next n e is after
-held_next terms state next (withdraw caller project number day) (Withdrawn n) is after =
-    withdrawn_held terms caller project number day state next n is after
-held_next terms state next request a is after = tt
+held_next : (terms : Terms) (state next : List Deposit) (request : Asked) (a : Answer) → IsReply terms state request a
+    → IsNext terms state request next → IsHeldIn next request a
+held_next terms state next (deposit caller project embargo bytes day) (Receipt n e) is step =
+    receipt_held terms caller project embargo bytes day state next n e is step
+held_next terms state next (withdraw caller project number day) (Withdrawn n) is step =
+    withdrawn_held terms caller project number day state next n is step
+held_next terms state next request a is step = tt
 
-none_held : (list : List Deposit) (r : Asked) → IsHeldIn list r StoreFailed
-none_held list (deposit caller project embargo bytes day) = tt
-none_held list r = tt
+-- nothing is said of an answer that is none of the model
+none_held : (list : List Deposit) (r : Asked) (a : Answer) → (IsModelAnswer a → ⊥) → IsHeldIn list r a
+none_held list (deposit caller project embargo bytes day) (Receipt n e) none = absurd (none tt)
+none_held list (withdraw caller project number day) (Withdrawn n) none = absurd (none tt)
+none_held list r a none = tt
 
-is_store_failed : (a : Answer) → is_failed a ≡ true → a ≡ StoreFailed
-is_store_failed StoreFailed h = refl
-is_store_failed a h = absurd cc
-
--- what holds from this state on: the deposits with receipts are in each list to which the last state grows
-abbrev Lasts : Terms → List Deposit → List Asked → List Answer → List Deposit → List Deposit → Type 0
-Lasts terms state requests answers last list = Grows state last × AllZip (IsHeldIn list) requests answers
-
-lasts_step : (terms : Terms) (state : List Deposit) (r : Asked) (requests : List Asked) (a : Answer)
-    (answers : List Answer) (last list : List Deposit) (t : Bool) → is_failed a ≡ t → IsAnswer terms state r a
-    → Grows last list
-    → ((next : List Deposit) → AreAnswers terms next requests answers last
-    → Lasts terms next requests answers last list)
-    → MatchBool t ((last ≡ state) × AreFailed requests answers)
-    ((next : List Deposit) × IsAfter terms state r a next × AreAnswers terms next requests answers last)
-    → Lasts terms state (r ∷ requests) (a ∷ answers) last list
-lasts_step terms state r requests a answers last list true fails is there rest w =
-    let failed = subst (IsHeldIn list r) (sym (is_store_failed a fails)) (none_held list r) in
-    (grows_itself state last w.0, (failed, all_failed (IsHeldIn list) (none_held list) requests answers w.1))
-lasts_step terms state r requests a answers last list false lives is there rest w =
-    let more = rest w.0 w.2 in
-    let grows = after_grows terms r state w.0 a lives w.1 in
-    let held = held_then w.0 list r a (grows_then w.0 last list more.0 there) (held_next terms state w.0 r a is w.1) in
-    (grows_then state w.0 last grows more.0, (held, more.1))
-
+-- the deposits with receipts are in each list to which the last state grows
 lasts : (terms : Terms) (state : List Deposit) (requests : List Asked) (answers : List Answer)
     (last list : List Deposit) → AreAnswers terms state requests answers last → Grows last list
-    → Lasts terms state requests answers last list
+    → Grows state last × AllZip (IsHeldIn list) requests answers
 lasts terms state [] [] last list h there = (grows_itself state last h, tt)
 lasts terms state (r ∷ requests) (a ∷ answers) last list h there =
-    lasts_step terms state r requests a answers last list (is_failed a) refl h.0 there
-    (λ next k. lasts terms next requests answers last list k there) h.1
+    elim (first_answer terms state r requests a answers last h) [
+      | inl failed ↦
+          let none = λ (q : Asked). none_held list q StoreFailed (λ x. x) in
+          let all = all_failed (IsHeldIn list) none requests answers failed.2 in
+          (grows_itself state last failed.1, (subst (IsHeldIn list r) (sym failed.0) (none r), all))
+      | inr (inl dry) ↦
+          let more = lasts terms state requests answers last list dry.1 there in
+          (more.0, (subst (IsHeldIn list r) (sym dry.0) (none_held list r NoMemory (λ x. x)), more.1))
+      | inr (inr is) ↦
+          let more = lasts terms is.2 requests answers last list is.4 there in
+          let grows = grows_then is.2 last list more.0 there in
+          let held = held_then is.2 list r a grows (held_next terms state is.2 r a is.1 is.3) in
+          (grows_then state is.2 last (next_grows terms r state is.2 is.3) more.0, (held, more.1))
+    ]
 lasts terms state requests answers last list h there = absurd h
-
-left_grows : (terms : Terms) (requests : List Asked) (answers : List Answer) (state list : List Deposit)
-    → (list ≡ state) ⊎ ((r : Asked) × (failing requests answers ≡ Some r) × Changes terms state r list)
-    → Grows state list
-left_grows terms requests answers state list (inl h) = grows_itself state list h
-left_grows terms requests answers state list (inr h) = changes_grow terms h.0 state list h.2
 
 pub receipts_last : {K : Type 0} (keep : Ghosts K) (rules : List Rule) (old new : K) (requests : List Asked) (answers : List Answer) → Runs keep rules old new requests answers
     → (bytes : List ℕ) (list : List Deposit) → keep.may_leave new bytes list → AllZip (IsHeldIn list) requests answers
 receipts_last keep rules old new requests answers runs bytes list may =
     let terms = terms_at keep rules old in
-    let grows = left_grows terms requests answers runs.last list (runs.left bytes list may).1 in
+    let grows : Grows runs.last list = elim (runs.left bytes list may).1 [
+      | inl same ↦ grows_itself runs.last list same
+      | inr h ↦ changes_grow terms h.0 runs.last list h.2
+    ] in
     (lasts terms (keep.deposits old) requests answers runs.last list runs.are_answers grows).1

@@ -1,5 +1,5 @@
 -- A list of requests, from the answer to each.
-use Rattle.std.proofs.Common.{◌≡◌, ℕ, zero, suc, ◌<◌, length, arith, Bool, true, false, cond, Option, Some, None, List, [], ◌∷◌, ◌++◌, map, take, get_or, refl, sym, ap, subst, ◌∙◌, inl, inr}
+use Rattle.std.proofs.Common.{◌≡◌, ℕ, Bool, true, false, cond, Option, Some, None, List, [], ◌∷◌, ◌++◌, refl, sym, ap, subst, ◌∙◌, inl, inr}
 use Rattle.std.specs.List.{find, zip}
 use Rattle.std.proofs.lemmas.Bool.{true≢false, cases_Bool}
 use Rattle.std.proofs.Props.{props}
@@ -8,8 +8,7 @@ use Rattle.std.specs.Prelude.{option_map}
 use Rattle.reg_policy.specs.declared.rule.Rule.{Rule}
 use Rattle.reg_store.specs.Deposit.{Deposit}
 use Rattle.reg_store.specs.declared.keep.Keep.{Ghosts}
-use Rattle.reg_desk.specs.Asked.{Asked, asked}
-use Rattle.reg_desk.specs.declared.request.Request.{Request}
+use Rattle.reg_desk.specs.Asked.{Asked}
 use Rattle.reg_desk.specs.declared.answer.Answer.{Answer}
 use Rattle.reg_desk.specs.declared.desk.Desk.{Desk}
 use Rattle.reg_desk.specs.Desks.{AnsweredBy, AreAnsweredBy, StepsAreARun, EndsARun}
@@ -149,10 +148,3 @@ pub ends_run : {K : Type 0} (keep : Ghosts K) → Settled keep → Unbroken keep
 ends_run keep settled unbroken old new request answer by first requests answers before =
     steps_run keep settled unbroken first new (requests ++ request ∷ []) (answers ++ answer ∷ [])
     (answered_more keep first old new requests answers request answer before by)
-
--- ---- the loop
-
-pub asked_more : (requests : List Request) (i : ℕ) (d : Request) → i < length requests → map asked (take (suc i) requests) ≡ map asked (take i requests) ++ asked (get_or requests i d) ∷ []
-asked_more [] i d lt = absurd (omega (arith, lt))
-asked_more (r ∷ requests) zero d lt = refl
-asked_more (r ∷ requests) (suc i) d lt = ap (λ (l : List Asked). asked r ∷ l) (asked_more requests i d (omega (arith, lt)))

@@ -11,7 +11,7 @@ use Rattle.reg_policy.specs.declared.subject.Decision.TheVariants.{Permit}
 use Rattle.reg_policy.specs.declared.subject.Verb.TheVariants as verbs
 use Rattle.reg_store.specs.Deposit.{Deposit, with_withdrawn}
 use Rattle.reg_store.proofs.Lemmas.{withdrawn_again}
-use Rattle.reg_store.specs.Keep.{IsHeadOf, is_store}
+use Rattle.reg_store.specs.Keep.{IsHeadOf}
 use Rattle.reg_store.specs.declared.keep.Keep.{Ghosts}
 use Rattle.reg_store.specs.declared.keep.KeepError.{KeepError}
 use Rattle.reg_store.specs.declared.keep.KeepError.TheVariants as errors
@@ -23,7 +23,7 @@ use Rattle.reg_desk.specs.Machine.{Terms, decided, held, is_own, withdrawal_of, 
 use Rattle.reg_desk.specs.Serving.{AsksStore, withdrawn_of, terms_at, OnlyReads, Serves, answer_of}
 use Rattle.reg_desk.proofs.Drawing.{held_at}
 use Rattle.reg_desk.proofs.Taken.{own_reply}
-use Rattle.reg_desk.proofs.Serves.{Makes, IsMaking, made_serves, unmade_serves, asks_of, refused_serves, replies_serves, permitted_reply, permit_stands}
+use Rattle.reg_desk.proofs.Serves.{Makes, IsMaking, made_serves, unmade_serves, asks_of, replies_serves, permitted_reply, permit_stands}
 
 -- ---- whether a firm's own deposit is withdrawn
 
@@ -99,7 +99,7 @@ withdrawal_asks caller project number (Some kept) =
 abbrev IsWithdrawal : List Deposit → Caller → List ℕ → ℕ → Answer → Type 0
 IsWithdrawal state caller project number r = r ≡ withdrawal_of caller project number (held number state)
 
-withdraw_asks : (terms : Terms) (state : List Deposit) (caller : Caller) (project : List ℕ) (number : ℕ) (day : ℤ)
+pub withdraw_asks : (terms : Terms) (state : List Deposit) (caller : Caller) (project : List ℕ) (number : ℕ) (day : ℤ)
     (k : ℕ) → decided terms caller project verbs.Withdraw day ≡ Permit k
     → AsksStore (IsReply terms state (withdraw caller project number day))
 withdraw_asks terms state caller project number day k permit =
@@ -131,11 +131,6 @@ module _ {K : Type 0} (keep : Ghosts K) (rules : List Rule) (caller : Caller) (p
 
   abbrev ruling : Decision
   ruling = decided terms caller project verbs.Withdraw day
-
-  pub withdraw_unread : (new : K) (k : ℕ) (e : KeepError) → ruling ≡ Permit k → OnlyReads keep old new (is_store e) → e ≢ errors.Full
-      → Serves keep rules request old new (answer_of e)
-  withdraw_unread new k e permit reads named =
-      refused_serves keep rules request old new e reads named (withdraw_asks terms state caller project number day k permit)
 
   pub withdraw_unknown : (new : K) (k : ℕ) → ruling ≡ Permit k → OnlyReads keep old new false
       → (keep.is_sound new → None ≡ withdrawn_of caller project (held number state)) → Serves keep rules request old new Unknown

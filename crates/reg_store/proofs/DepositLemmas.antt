@@ -4,7 +4,7 @@ use Rattle.std.specs.Prelude.{option_map}
 use Rattle.std.proofs.lemmas.List.{length-map}
 use Rattle.std.proofs.lemmas.Option.{slice_get-map}
 use Rattle.reg_store.specs.Sent.{Sent}
-use Rattle.reg_store.specs.Deposit.{Deposit, sents, as_withdrawn, with_withdrawn}
+use Rattle.reg_store.specs.Deposit.{Deposit, sents, with_withdrawn}
 
 -- ---- what was sent
 
@@ -25,23 +25,12 @@ deposit_at list k sent at = some_sent (slice_get list k) sent (sym (slice_get-ma
 
 -- ---- withdrawals
 
-pub length_marked : (n : ℕ) (list : List Deposit) → length (with_withdrawn n list) ≡ length list
-length_marked n [] = refl
-length_marked zero (d ∷ more) = refl
-length_marked (suc zero) (d ∷ more) = refl
-length_marked (suc (suc n)) (d ∷ more) = ap suc (length_marked (suc n) more)
-
-marked_place : (list : List Deposit) (k : ℕ) (d : Deposit) → slice_get list k ≡ Some d → slice_get (with_withdrawn (suc k) list) k ≡ Some (as_withdrawn d)
-marked_place [] k d at = absurd cc
-marked_place (x ∷ more) zero d at = let same : x ≡ d = cc in ap (λ (y : Deposit). Some (as_withdrawn y)) same
-marked_place (x ∷ more) (suc k) d at = marked_place more k d at
-
-mark_again : (d : Deposit) → d.withdrawn ≡ true → as_withdrawn d ≡ d
-mark_again d h = let make : Bool → Deposit = λ b. record { sent = d.sent; withdrawn = b } in ap make (sym h)
-
 again_place : (list : List Deposit) (k : ℕ) (d : Deposit) → slice_get list k ≡ Some d → d.withdrawn ≡ true → with_withdrawn (suc k) list ≡ list
 again_place [] k d at h = refl
-again_place (x ∷ more) zero d at h = let same : x ≡ d = cc in ap (λ (y : Deposit). y ∷ more) (mark_again x (ap (λ (y : Deposit). y.withdrawn) same ∙ h))
+again_place (x ∷ more) zero d at h =
+    let same : x ≡ d = cc in
+    let make : Bool → List Deposit = λ b. record { sent = x.sent; withdrawn = b } ∷ more in
+    ap make (sym (ap (λ (y : Deposit). y.withdrawn) same ∙ h))
 again_place (x ∷ more) (suc k) d at h = ap (λ (rest : List Deposit). x ∷ rest) (again_place more k d at h)
 
 -- a list whose deposit is withdrawn already is left as it is

@@ -13,7 +13,6 @@ use reg_policy::{Caller, Name};
 use reg_store::{Keep, KeepError};
 
 /// What a withdrawal is answered that the policy permits, under whichever rules and on whichever day.
-#[tactic(none)]
 pub(super) fn serve_withdraw<K: Keep>(
     keep: &mut K,
     caller: &Caller,
