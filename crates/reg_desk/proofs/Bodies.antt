@@ -101,9 +101,6 @@ report_is given bytes (f ∷ found) answer le are none some = inl (subst (IsRefu
 abbrev IsCleanAnswer : Answer → Type 0
 IsCleanAnswer r = r ≡ Clean
 
-clean_needs : NeedsMemory IsCleanAnswer
-clean_needs = (λ n e. cc, λ e. cc)
-
 module _ {K : Type 0} (keep : Ghosts K) (rules : List Rule) (caller : Caller) (project bytes : List ℕ) (day : ℤ) (old : K) where
   abbrev request : Asked
   request = check caller project bytes day
@@ -111,20 +108,16 @@ module _ {K : Type 0} (keep : Ghosts K) (rules : List Rule) (caller : Caller) (p
   abbrev ruling : Decision
   ruling = decided (terms_at keep rules old) caller project verbs.Check day
 
-  check_clean : (k : ℕ) → keep.has_failed old ≡ false → ruling ≡ Permit k → length bytes ≤ LIMIT → AreFindings (keep.dictionary old) bytes []
-      → Serves keep rules request old old Clean
-  check_clean k works permit le are =
-      let terms = terms_at keep rules old in
-      replies_at_once keep rules request old Clean works tt
-      (permitted_reply ruling k (OrRefused terms bytes IsCleanAnswer) Clean permit (refused_none terms bytes IsCleanAnswer Clean le are refl))
-      (inr (λ list change. change, refl))
-
   -- the body is refused, or it has no finding
   pub check_answered : (given : Entries) (answer : Answer) (k : ℕ) → keep.has_failed old ≡ false → ruling ≡ Permit k → given ≡ keep.dictionary old
       → IsRefusal given bytes answer ⊎ ((answer ≡ Clean) × (length bytes ≤ LIMIT) × AreFindings given bytes []) → Serves keep rules request old old answer
   check_answered given answer k works permit same (inl refusal) =
       refusal_serves keep rules request old answer ruling k bytes IsCleanAnswer works permit (subst (λ (e : Entries). IsRefusal e bytes answer) same refusal)
-      clean_needs (λ r h. h) (λ r h. h) (λ r h is. inr (λ list change. change, refl))
+      (λ n e. cc, λ e. cc) (λ r h. h) (λ r h. h) (λ r h is. inr (λ list change. change, refl))
   check_answered given answer k works permit same (inr clean) =
+      let terms = terms_at keep rules old in
+      let are = subst (λ (e : Entries). AreFindings e bytes []) same clean.2 in
+      let is = refused_none terms bytes IsCleanAnswer Clean clean.1 are refl in
       subst (Serves keep rules request old old) (sym clean.0)
-      (check_clean k works permit clean.1 (subst (λ (e : Entries). AreFindings e bytes []) same clean.2))
+      (replies_at_once keep rules request old Clean works tt
+      (permitted_reply ruling k (OrRefused terms bytes IsCleanAnswer) Clean permit is) (inr (λ list change. change, refl)))

@@ -1,5 +1,5 @@
 -- What is drawn and seen of a kept deposit, from what a store says of it.
-use Rattle.std.proofs.Common.{◌≡◌, ◌≢◌, ℕ, zero, suc, ◌-◌, ◌<◌, ◌≤◌, Bool, true, false, Option, Some, None, Ok, Err, List, [], ◌∷◌, refl, sym, ap, subst, ◌∙◌, inl, inr, ◌⊎◌, arith}
+use Rattle.std.proofs.Common.{◌≡◌, ℕ, zero, suc, ◌-◌, ◌<◌, ◌≤◌, Bool, true, false, Option, Some, None, Ok, Err, List, [], ◌∷◌, refl, sym, ap, subst, ◌∙◌, inl, inr, ◌⊎◌, arith}
 use Rattle.std.proofs.lemmas.Option.{slice_get_within, get_or_from_slice_get}
 use Rattle.std.proofs.lemmas.Bool.{true≢false}
 use Rattle.std.specs.Prelude.{All, ℤ, slice_get, length, Result, ◌↔◌, MatchBool}
@@ -17,7 +17,7 @@ use Rattle.reg_store.specs.Sent.{Sent}
 use Rattle.reg_store.specs.Deposit.{Deposit, sents}
 use Rattle.reg_store.proofs.Lemmas.{sent_at}
 use Rattle.reg_store.specs.Fit.{IsFit, IsFileOf}
-use Rattle.reg_store.specs.Keep.{IsHeadOf, OfDeposit, is_store, fails}
+use Rattle.reg_store.specs.Keep.{IsHeadOf, OfDeposit, fails}
 use Rattle.reg_store.specs.declared.keep.Keep.{Ghosts}
 use Rattle.reg_store.specs.declared.keep.KeepError.{KeepError}
 use Rattle.reg_store.specs.declared.keep.KeepError.TheVariants as errors
@@ -32,10 +32,10 @@ use Rattle.ags_check.specs.Findings.{IsCleanFile}
 use Rattle.reg_desk.specs.Machine.{Terms, decided, look_at, IsSeen, IsTextOf, IsDrawnFrom, held, IsReply}
 use Rattle.ags_check.specs.Findings.{file_of}
 use Rattle.reg_desk.specs.View.{look_on, Sees}
-use Rattle.reg_desk.specs.Serving.{AsksStore, IsSeenHead, terms_at, OnlyReads, Serves, answer_of}
+use Rattle.reg_desk.specs.Serving.{AsksStore, IsSeenHead, terms_at, OnlyReads, Serves}
 use Rattle.reg_desk.proofs.Replies.{one_file}
 use Rattle.reg_desk.proofs.Bodies.{where_true}
-use Rattle.reg_desk.proofs.Serves.{asks_of, refused_serves, replies_serves, permitted_reply, permit_stands}
+use Rattle.reg_desk.proofs.Serves.{asks_of, replies_serves, permitted_reply, permit_stands}
 
 -- ---- a kept deposit
 
@@ -224,14 +224,10 @@ module _ {K : Type 0} (keep : Ghosts K) (rules : List Rule) (caller : Caller) (p
       ∥∥₁_map (fit_at (keep.dictionary old) (sents state) (number - 1) d.0.sent fit sent) (λ (f : (file : CheckedFile) × IsFileOf (keep.dictionary old) d.0.sent file).
       seen_drawn terms caller project groups day d.0 head f.0 text f.1 (drawn d.0.sent f.0 sent f.1) is)))
 
-  extract_asks : (k : ℕ) → ruling ≡ Permit k → AsksStore (IsReply terms (keep.deposits old) request)
+  pub extract_asks : (k : ℕ) → ruling ≡ Permit k → AsksStore (IsReply terms (keep.deposits old) request)
   extract_asks k permit =
       asks_of IsOne (IsReply terms (keep.deposits old) request)
       (λ reply is. drawn_one terms caller project groups day (held number (keep.deposits old)) reply (permit_stands ruling k Drawn reply permit is)) one_asks
-
-  pub extract_unread : (new : K) (k : ℕ) (e : KeepError) → ruling ≡ Permit k → OnlyReads keep old new (is_store e) → e ≢ errors.Full
-      → Serves keep rules request old new (answer_of e)
-  extract_unread new k e permit reads named = refused_serves keep rules request old new e reads named (extract_asks k permit)
 
   pub extract_replies : (new : K) (k : ℕ) (answer : Answer) → ruling ≡ Permit k → OnlyReads keep old new false → IsModelAnswer answer
       → (keep.is_sound new → ∥ Drawn answer ∥₁) → Serves keep rules request old new answer

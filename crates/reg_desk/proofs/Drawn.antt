@@ -73,7 +73,7 @@ text_clean terms state (withdraw caller project number day) text h =
 pub clean_text : {K : Type 0} (keep : Ghosts K) (rules : List Rule) (request : Asked) (old new : K) (answer : Answer) → Serves keep rules request old new answer → keep.is_sound new → IsCleanText keep old answer
 clean_text keep rules request old new (Text text) serves s =
     let terms = terms_at keep rules old in
-    ∥∥₁_map (serves.answered s) (λ (is : IsAnswer terms (keep.deposits old) request (Text text)).
+    ∥∥₁_map (serves.is_answer s) (λ (is : IsAnswer terms (keep.deposits old) request (Text text)).
     text_clean terms (keep.deposits old) request text (text_reply terms (keep.deposits old) request text is))
 clean_text keep rules request old new answer serves s = tt
 
@@ -83,7 +83,7 @@ drawn_again : {K : Type 0} (keep : Ghosts K) (rules : List Rule) (request : Aske
 drawn_again keep rules (extract caller project number [] day) old new text serves s = λ kept holds was whole.
     let terms = terms_at keep rules old in
     let request = extract caller project number [] day in
-    ∥∥₁_elim (serves.answered s) (Prim.hlevel props) (λ (is : IsAnswer terms (keep.deposits old) request (Text text)).
+    ∥∥₁_elim (serves.is_answer s) (Prim.hlevel props) (λ (is : IsAnswer terms (keep.deposits old) request (Text text)).
     extract_again terms (keep.deposits old) kept caller project number day text holds was whole (text_reply terms (keep.deposits old) request text is))
 drawn_again keep rules request old new text serves s = tt
 

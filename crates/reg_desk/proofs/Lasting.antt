@@ -1,30 +1,29 @@
--- A deposit with a receipt is held from then on, and one that was answered as withdrawn has its mark, whatever a crash
+-- A deposit with a receipt is held from then on, and one that was answered as withdrawn is withdrawn, whatever a crash
 -- leaves.
-use Rattle.std.proofs.Common.{◌≡◌, ◌≢◌, ℕ, zero, suc, ◌+◌, Bool, true, false, cond, Option, Some, None, List, [], ◌∷◌, ◌++◌, length, refl, sym, ap, subst, ◌∙◌, inl, inr, ◌⊎◌, arith}
-use Rattle.std.specs.Prelude.{ℤ, nat_lt, slice_get, MatchBool, option_map}
+use Rattle.std.proofs.Common.{◌≡◌, ◌≢◌, ℕ, zero, suc, ◌+◌, Bool, true, false, cond, Option, Some, None, List, [], ◌∷◌, ◌++◌, length, refl, sym, ap, subst, ◌∙◌, inl, inr, arith}
+use Rattle.std.specs.Prelude.{ℤ, nat_lt, slice_get, option_map}
 use Rattle.std.specs.List.{AllZip}
 use Rattle.std.proofs.lemmas.Option.{same_Some}
 use Rattle.reg_policy.specs.declared.rule.Rule.{Rule}
 use Rattle.reg_policy.specs.declared.callers.Caller.{Caller}
 use Rattle.reg_policy.specs.declared.subject.Verb.TheVariants as verbs
 use Rattle.reg_store.specs.Sent.{Sent}
-use Rattle.reg_store.specs.Deposit.{Deposit, sents, unmarked, mark, marked}
+use Rattle.reg_store.specs.Deposit.{Deposit, sents, new_deposit, as_withdrawn, with_withdrawn}
 use Rattle.reg_store.proofs.Lemmas.{sent_at, deposit_at}
 use Rattle.reg_store.specs.declared.keep.Keep.{Ghosts}
 use Rattle.reg_desk.specs.Asked.{Asked, deposit, withdraw}
 use Rattle.reg_desk.specs.declared.answer.Answer.{Answer}
 use Rattle.reg_desk.specs.declared.answer.Answer.TheVariants.{Receipt, Full, NoMemory, StoreFailed, Withdrawn}
 use Rattle.reg_desk.specs.Machine.{Terms, decided, first_equal, receipt_of, held, IsReply, asked_deposit, Changes, IsNext}
-use Rattle.reg_desk.specs.Serving.{is_failed, IsAnswer, IsAfter, terms_at}
-use Rattle.reg_desk.specs.Running.{AreFailed, AreAnswers, failing, Runs, IsHeldIn}
-use Rattle.reg_desk.specs.Laws.{WithdrawnIsMarked}
-use Rattle.reg_desk.proofs.Firsts.{first_at}
-use Rattle.reg_desk.proofs.ModelAnswers.{all_failed}
-use Rattle.reg_desk.proofs.Taken.{not_refused, taken_received, withdrawn_own}
+use Rattle.reg_desk.specs.Serving.{terms_at}
+use Rattle.reg_desk.specs.Running.{AreAnswers, Runs, IsHeldIn}
+use Rattle.reg_desk.specs.Laws.{IsModelAnswer, WithdrawnIsRecorded}
+use Rattle.reg_desk.proofs.ModelAnswers.{all_failed, first_answer}
+use Rattle.reg_desk.proofs.Taken.{not_refused, taken_received, withdrawn_own, first_at}
 
--- ---- a list that grew, and in which more may be marked
+-- ---- a list that grew, and in which more may be withdrawn
 
--- what is held there is what was sent here, with the mark if it has it here
+-- what is held there is what was sent here, and withdrawn if it is so here
 abbrev pub Keeps : Deposit → Option Deposit → Type 0
 Keeps d held = (e : Deposit) × (held ≡ Some e) × (e.sent ≡ d.sent) × (d.withdrawn ≡ true → e.withdrawn ≡ true)
 
@@ -42,34 +41,27 @@ append_grows [] more i d at = absurd cc
 append_grows (k ∷ state) more zero d at = (d, at, refl, λ is. is)
 append_grows (k ∷ state) more (suc i) d at = append_grows state more i d at
 
-marked_grows : (n : ℕ) (state : List Deposit) → Grows state (marked n state)
-marked_grows n [] i d at = absurd cc
-marked_grows zero (k ∷ state) i d at = (d, at, refl, λ is. is)
-marked_grows (suc zero) (k ∷ state) zero d at =
-    (mark k, refl, ap (λ (x : Deposit). x.sent) (same_Some k d at), λ is. refl)
-marked_grows (suc zero) (k ∷ state) (suc i) d at = (d, at, refl, λ is. is)
-marked_grows (suc (suc n)) (k ∷ state) zero d at = (d, at, refl, λ is. is)
-marked_grows (suc (suc n)) (k ∷ state) (suc i) d at = marked_grows (suc n) state i d at
+withdrawn_grows : (n : ℕ) (state : List Deposit) → Grows state (with_withdrawn n state)
+withdrawn_grows n [] i d at = absurd cc
+withdrawn_grows zero (k ∷ state) i d at = (d, at, refl, λ is. is)
+withdrawn_grows (suc zero) (k ∷ state) zero d at =
+    (as_withdrawn k, refl, ap (λ (x : Deposit). x.sent) (same_Some k d at), λ is. refl)
+withdrawn_grows (suc zero) (k ∷ state) (suc i) d at = (d, at, refl, λ is. is)
+withdrawn_grows (suc (suc n)) (k ∷ state) zero d at = (d, at, refl, λ is. is)
+withdrawn_grows (suc (suc n)) (k ∷ state) (suc i) d at = withdrawn_grows (suc n) state i d at
 
 changes_grow : (terms : Terms) (request : Asked) (state list : List Deposit) → Changes terms state request list
     → Grows state list
 changes_grow terms (deposit caller project embargo bytes day) state list h =
-    subst (Grows state) (sym h.1) (append_grows state (unmarked (asked_deposit caller project embargo bytes) ∷ []))
+    subst (Grows state) (sym h.1) (append_grows state (new_deposit (asked_deposit caller project embargo bytes) ∷ []))
 changes_grow terms (withdraw caller project number day) state list h =
-    subst (Grows state) (sym h.1) (marked_grows number state)
+    subst (Grows state) (sym h.1) (withdrawn_grows number state)
 changes_grow terms request state list h = absurd h
 
 pub next_grows : (terms : Terms) (request : Asked) (state next : List Deposit) → IsNext terms state request next
     → Grows state next
 next_grows terms request state next (inl h) = changes_grow terms request state next h
 next_grows terms request state next (inr h) = grows_itself state next h.1
-
-after_grows : (terms : Terms) (request : Asked) (state next : List Deposit) (a : Answer) → is_failed a ≡ false
-    → IsAfter terms state request a next → Grows state next
-unfolding IsAfter
-after_grows terms request state next NoMemory lives h = grows_itself state next h
-after_grows terms request state next StoreFailed lives h = absurd cc
-after_grows terms request state next a lives h = next_grows terms request state next h
 
 -- ---- a receipt
 
@@ -98,7 +90,7 @@ receipt_held terms caller project embargo bytes day state next n e is (inl h) =
     let received = (taken_received terms state caller project embargo bytes day (Receipt n e) is).0 h.0 in
     let fields = receipt_fields n (length state + 1) e embargo received in
     let number : n ≡ suc (length state) = omega (arith, fields.0) in
-    let new = unmarked (asked_deposit caller project embargo bytes) in
+    let new = new_deposit (asked_deposit caller project embargo bytes) in
     ap (λ (l : List Deposit). held n (sents l)) h.1 ∙ ap (λ (k : ℕ). held k (sents (state ++ new ∷ []))) number
     ∙ get_last state new
     ∙ ap (λ (x : ℤ). Some (asked_deposit caller project x bytes)) (sym fields.1)
@@ -117,32 +109,32 @@ receipt_held terms caller project embargo bytes day state next n e is (inr h) =
 
 -- ---- a withdrawal
 
--- the mark of deposit n
-abbrev pub mark_at : ℕ → List Deposit → Option Bool
-mark_at n list = option_map (λ (e : Deposit). e.withdrawn) (held n list)
+-- whether deposit n is withdrawn
+abbrev pub withdrawn_at : ℕ → List Deposit → Option Bool
+withdrawn_at n list = option_map (λ (e : Deposit). e.withdrawn) (held n list)
 
-marked_held : (n : ℕ) (state : List Deposit) (d : Deposit) → held n state ≡ Some d
-    → held n (marked n state) ≡ Some (mark d)
-marked_held zero state d at = absurd cc
-marked_held (suc n) [] d at = absurd cc
-marked_held (suc zero) (k ∷ state) d at = ap (λ (x : Deposit). Some (mark x)) (same_Some k d at)
-marked_held (suc (suc n)) (k ∷ state) d at = marked_held (suc n) state d at
+held_withdrawn : (n : ℕ) (state : List Deposit) (d : Deposit) → held n state ≡ Some d
+    → held n (with_withdrawn n state) ≡ Some (as_withdrawn d)
+held_withdrawn zero state d at = absurd cc
+held_withdrawn (suc n) [] d at = absurd cc
+held_withdrawn (suc zero) (k ∷ state) d at = ap (λ (x : Deposit). Some (as_withdrawn x)) (same_Some k d at)
+held_withdrawn (suc (suc n)) (k ∷ state) d at = held_withdrawn (suc n) state d at
 
-pub withdrawn_marked : WithdrawnIsMarked
-withdrawn_marked terms state next caller project number day is step =
+pub withdrawn_recorded : WithdrawnIsRecorded
+withdrawn_recorded terms state next caller project number day is step =
     let own = (withdrawn_own terms state caller project number day number is).1 in
-    let same : next ≡ marked number state = elim step [ inl h ↦ h.1 | inr h ↦ absurd (h.0 _ (own, refl)) ] in
-    (own.1.0, own.1.1, ap (held number) same ∙ marked_held number state own.1.0 own.1.1)
+    let same : next ≡ with_withdrawn number state = elim step [ inl h ↦ h.1 | inr h ↦ absurd (h.0 _ (own, refl)) ] in
+    (own.1.0, own.1.1, ap (held number) same ∙ held_withdrawn number state own.1.0 own.1.1)
 
 withdrawn_held : (terms : Terms) (caller : Caller) (project : List ℕ) (number : ℕ) (day : ℤ)
     (state next : List Deposit) (n : ℕ) → IsReply terms state (withdraw caller project number day) (Withdrawn n)
-    → IsNext terms state (withdraw caller project number day) next → mark_at n next ≡ Some true
+    → IsNext terms state (withdraw caller project number day) next → withdrawn_at n next ≡ Some true
 withdrawn_held terms caller project number day state next n is step =
     let own = (withdrawn_own terms state caller project number day n is).0 in
     let asked = withdraw caller project number day in
     let here = subst (λ (m : ℕ). IsReply terms state asked (Withdrawn m)) (sym own) is in
-    let has = withdrawn_marked terms state next caller project number day here step in
-    ap (λ (m : ℕ). mark_at m next) (sym own) ∙ ap (option_map (λ (d : Deposit). d.withdrawn)) has.2
+    let has = withdrawn_recorded terms state next caller project number day here step in
+    ap (λ (m : ℕ). withdrawn_at m next) (sym own) ∙ ap (option_map (λ (d : Deposit). d.withdrawn)) has.2
 
 -- ---- the answers to a list
 
@@ -154,10 +146,10 @@ sent_then (suc i) state list d grows at =
     let kept = grows i of.0 of.1 in
     sent_at list i kept.0 kept.1 ∙ ap (λ (x : Sent). Some x) (kept.2 ∙ of.2)
 
-mark_then : (n : ℕ) (state list : List Deposit) → Grows state list → mark_at n state ≡ Some true
-    → mark_at n list ≡ Some true
-mark_then zero state list grows is = absurd cc
-mark_then (suc i) state list grows is = by (slice_get state i) refl is
+withdrawn_then : (n : ℕ) (state list : List Deposit) → Grows state list → withdrawn_at n state ≡ Some true
+    → withdrawn_at n list ≡ Some true
+withdrawn_then zero state list grows is = absurd cc
+withdrawn_then (suc i) state list grows is = by (slice_get state i) refl is
   where
     by : (o : Option Deposit) → slice_get state i ≡ o → option_map (λ (e : Deposit). e.withdrawn) o ≡ Some true
         → option_map (λ (e : Deposit). e.withdrawn) (slice_get list i) ≡ Some true
@@ -171,65 +163,51 @@ held_then : (state list : List Deposit) (request : Asked) (a : Answer) → Grows
     → IsHeldIn list request a
 held_then state list (deposit caller project embargo bytes day) (Receipt n e) grows h =
     sent_then n state list (asked_deposit caller project e bytes) grows h
-held_then state list (withdraw caller project number day) (Withdrawn n) grows h = mark_then n state list grows h
+held_then state list (withdraw caller project number day) (Withdrawn n) grows h = withdrawn_then n state list grows h
 held_then state list request a grows h = tt
 
-held_next : (terms : Terms) (state next : List Deposit) (request : Asked) (a : Answer) → IsAnswer terms state request a
-    → IsAfter terms state request a next → IsHeldIn next request a
-unfolding IsAnswer IsAfter
-held_next terms state next (deposit caller project embargo bytes day) (Receipt n e) is after =
-    receipt_held terms caller project embargo bytes day state next n e is after
-held_next terms state next (withdraw caller project number day) (Withdrawn n) is after =
-    withdrawn_held terms caller project number day state next n is after
-held_next terms state next request a is after = tt
+held_next : (terms : Terms) (state next : List Deposit) (request : Asked) (a : Answer) → IsReply terms state request a
+    → IsNext terms state request next → IsHeldIn next request a
+held_next terms state next (deposit caller project embargo bytes day) (Receipt n e) is step =
+    receipt_held terms caller project embargo bytes day state next n e is step
+held_next terms state next (withdraw caller project number day) (Withdrawn n) is step =
+    withdrawn_held terms caller project number day state next n is step
+held_next terms state next request a is step = tt
 
-none_held : (list : List Deposit) (r : Asked) → IsHeldIn list r StoreFailed
-none_held list (deposit caller project embargo bytes day) = tt
-none_held list r = tt
+-- nothing is said of an answer that is none of the model
+none_held : (list : List Deposit) (r : Asked) (a : Answer) → (IsModelAnswer a → ⊥) → IsHeldIn list r a
+none_held list (deposit caller project embargo bytes day) (Receipt n e) none = absurd (none tt)
+none_held list (withdraw caller project number day) (Withdrawn n) none = absurd (none tt)
+none_held list r a none = tt
 
-is_store_failed : (a : Answer) → is_failed a ≡ true → a ≡ StoreFailed
-is_store_failed StoreFailed h = refl
-is_store_failed a h = absurd cc
-
--- what holds from this state on: the deposits with receipts are in each list to which the last state grows
-abbrev Lasts : Terms → List Deposit → List Asked → List Answer → List Deposit → List Deposit → Type 0
-Lasts terms state requests answers last list = Grows state last × AllZip (IsHeldIn list) requests answers
-
-lasts_step : (terms : Terms) (state : List Deposit) (r : Asked) (requests : List Asked) (a : Answer)
-    (answers : List Answer) (last list : List Deposit) (t : Bool) → is_failed a ≡ t → IsAnswer terms state r a
-    → Grows last list
-    → ((next : List Deposit) → AreAnswers terms next requests answers last
-    → Lasts terms next requests answers last list)
-    → MatchBool t ((last ≡ state) × AreFailed requests answers)
-    ((next : List Deposit) × IsAfter terms state r a next × AreAnswers terms next requests answers last)
-    → Lasts terms state (r ∷ requests) (a ∷ answers) last list
-lasts_step terms state r requests a answers last list true fails is there rest w =
-    let failed = subst (IsHeldIn list r) (sym (is_store_failed a fails)) (none_held list r) in
-    (grows_itself state last w.0, (failed, all_failed (IsHeldIn list) (none_held list) requests answers w.1))
-lasts_step terms state r requests a answers last list false lives is there rest w =
-    let more = rest w.0 w.2 in
-    let grows = after_grows terms r state w.0 a lives w.1 in
-    let held = held_then w.0 list r a (grows_then w.0 last list more.0 there) (held_next terms state w.0 r a is w.1) in
-    (grows_then state w.0 last grows more.0, (held, more.1))
-
+-- the deposits with receipts are in each list to which the last state grows
 lasts : (terms : Terms) (state : List Deposit) (requests : List Asked) (answers : List Answer)
     (last list : List Deposit) → AreAnswers terms state requests answers last → Grows last list
-    → Lasts terms state requests answers last list
+    → Grows state last × AllZip (IsHeldIn list) requests answers
 lasts terms state [] [] last list h there = (grows_itself state last h, tt)
 lasts terms state (r ∷ requests) (a ∷ answers) last list h there =
-    lasts_step terms state r requests a answers last list (is_failed a) refl h.0 there
-    (λ next k. lasts terms next requests answers last list k there) h.1
+    elim (first_answer terms state r requests a answers last h) [
+      | inl failed ↦
+          let none = λ (q : Asked). none_held list q StoreFailed (λ x. x) in
+          let all = all_failed (IsHeldIn list) none requests answers failed.2 in
+          (grows_itself state last failed.1, (subst (IsHeldIn list r) (sym failed.0) (none r), all))
+      | inr (inl dry) ↦
+          let more = lasts terms state requests answers last list dry.1 there in
+          (more.0, (subst (IsHeldIn list r) (sym dry.0) (none_held list r NoMemory (λ x. x)), more.1))
+      | inr (inr is) ↦
+          let more = lasts terms is.2 requests answers last list is.4 there in
+          let grows = grows_then is.2 last list more.0 there in
+          let held = held_then is.2 list r a grows (held_next terms state is.2 r a is.1 is.3) in
+          (grows_then state is.2 last (next_grows terms r state is.2 is.3) more.0, (held, more.1))
+    ]
 lasts terms state requests answers last list h there = absurd h
-
-left_grows : (terms : Terms) (requests : List Asked) (answers : List Answer) (state list : List Deposit)
-    → (list ≡ state) ⊎ ((r : Asked) × (failing requests answers ≡ Some r) × Changes terms state r list)
-    → Grows state list
-left_grows terms requests answers state list (inl h) = grows_itself state list h
-left_grows terms requests answers state list (inr h) = changes_grow terms h.0 state list h.2
 
 pub receipts_last : {K : Type 0} (keep : Ghosts K) (rules : List Rule) (old new : K) (requests : List Asked) (answers : List Answer) → Runs keep rules old new requests answers
     → (bytes : List ℕ) (list : List Deposit) → keep.may_leave new bytes list → AllZip (IsHeldIn list) requests answers
 receipts_last keep rules old new requests answers runs bytes list may =
     let terms = terms_at keep rules old in
-    let grows = left_grows terms requests answers runs.last list (runs.left bytes list may).1 in
-    (lasts terms (keep.deposits old) requests answers runs.last list runs.answered grows).1
+    let grows : Grows runs.last list = elim (runs.left bytes list may).1 [
+      | inl same ↦ grows_itself runs.last list same
+      | inr h ↦ changes_grow terms h.0 runs.last list h.2
+    ] in
+    (lasts terms (keep.deposits old) requests answers runs.last list runs.are_answers grows).1

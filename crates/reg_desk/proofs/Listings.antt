@@ -1,5 +1,5 @@
 -- A listing, number by number.
-use Rattle.std.proofs.Common.{◌≡◌, ◌≢◌, ℕ, zero, suc, ◌+◌, ◌<◌, ◌≤◌, Bool, true, false, cond, Option, Some, None, List, [], ◌∷◌, ◌++◌, drop, get_or, refl, sym, ap, subst, ◌∙◌, inl, inr, ◌⊎◌, arith, append_assoc, append-nil}
+use Rattle.std.proofs.Common.{◌≡◌, ℕ, zero, suc, ◌+◌, ◌<◌, ◌≤◌, Bool, true, false, cond, Option, Some, None, List, [], ◌∷◌, ◌++◌, drop, get_or, refl, sym, ap, subst, ◌∙◌, inl, inr, ◌⊎◌, arith, append_assoc, append-nil}
 use Rattle.std.specs.Prelude.{ℤ, slice_get, length, MatchBool}
 use Rattle.std.specs.Str.{bytes_eq}
 use Rattle.std.proofs.Math.Logic.{∥∥₁_map, ∥∥₁_elim}
@@ -12,19 +12,17 @@ use Rattle.reg_policy.specs.declared.subject.Decision.TheVariants.{Permit}
 use Rattle.reg_policy.specs.declared.subject.Verb.TheVariants as verbs
 use Rattle.reg_store.specs.Sent.{numbers_from}
 use Rattle.reg_store.specs.Deposit.{Deposit, sents}
-use Rattle.reg_store.specs.Keep.{IsHeadOf, is_store}
+use Rattle.reg_store.specs.Keep.{IsHeadOf}
 use Rattle.reg_store.specs.declared.keep.Keep.{Ghosts}
-use Rattle.reg_store.specs.declared.keep.KeepError.{KeepError}
-use Rattle.reg_store.specs.declared.keep.KeepError.TheVariants as errors
 use Rattle.reg_store.specs.declared.keep.KeptHead.{KeptHead}
 use Rattle.reg_desk.specs.Asked.{Asked, listing}
 use Rattle.reg_desk.specs.declared.answer.Listed.{Listed}
 use Rattle.reg_desk.specs.declared.answer.Answer.{Answer}
 use Rattle.reg_desk.specs.declared.answer.Answer.TheVariants.{Listing}
 use Rattle.reg_desk.specs.Machine.{Terms, decided, IsSeen, listed_of, IsListing, held, IsReply}
-use Rattle.reg_desk.specs.Serving.{AsksStore, IsSeenHead, terms_at, OnlyReads, Serves, answer_of}
+use Rattle.reg_desk.specs.Serving.{AsksStore, IsSeenHead, terms_at, OnlyReads, Serves}
 use Rattle.reg_desk.proofs.Drawing.{held_at, same_kept}
-use Rattle.reg_desk.proofs.Serves.{asks_of, refused_serves, replies_serves, permitted_reply, permit_stands}
+use Rattle.reg_desk.proofs.Serves.{asks_of, replies_serves, permitted_reply, permit_stands}
 
 -- ---- lines for numbers
 
@@ -48,10 +46,6 @@ AreLines terms caller project day at (n ∷ numbers) lines =
 abbrev pub SoFar : Terms → Caller → List ℕ → ℤ → (ℕ → Option Deposit) → List ℕ → List ℕ → List Listed → Type 0
 SoFar terms caller project day at all numbers lines =
     (rest : List Listed) → AreLines terms caller project day at numbers rest → AreLines terms caller project day at all (lines ++ rest)
-
-pub lines_begin : (terms : Terms) (caller : Caller) (project : List ℕ) (day : ℤ) (at : ℕ → Option Deposit) (all : List ℕ)
-    → SoFar terms caller project day at all all []
-lines_begin terms caller project day at all = λ rest h. h
 
 abbrev pub put_line : List Listed → ℕ → Option KeptHead → List Listed
 put_line lines n None = lines
@@ -189,14 +183,10 @@ module _ {K : Type 0} (keep : Ghosts K) (rules : List Rule) (caller : Caller) (p
   abbrev Lists : Answer → Type 0
   Lists r = (lines : List Listed) × IsListing terms caller project day 1 state lines × (r ≡ Listing lines)
 
-  listing_asks : (k : ℕ) → ruling ≡ Permit k → AsksStore (IsReply terms state request)
+  pub listing_asks : (k : ℕ) → ruling ≡ Permit k → AsksStore (IsReply terms state request)
   listing_asks k permit =
       asks_of Lists (IsReply terms state request) (λ reply is. permit_stands ruling k Lists reply permit is)
       ((λ n h. let e = h.2 in cc, λ h. let e = h.2 in cc), λ found h. let e = h.2 in cc, λ h. let e = h.2 in cc)
-
-  pub listing_unread : (new : K) (k : ℕ) (e : KeepError) → ruling ≡ Permit k → OnlyReads keep old new (is_store e) → e ≢ errors.Full
-      → Serves keep rules request old new (answer_of e)
-  listing_unread new k e permit reads named = refused_serves keep rules request old new e reads named (listing_asks k permit)
 
   pub listing_replies : (new : K) (k : ℕ) (lines : List Listed) → ruling ≡ Permit k → OnlyReads keep old new false
       → (keep.is_sound new → ∥ IsListing terms caller project day 1 state lines ∥₁) → Serves keep rules request old new (Listing lines)

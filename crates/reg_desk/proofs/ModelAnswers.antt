@@ -44,6 +44,28 @@ all_failed Holds each (r ∷ requests) (a ∷ answers) h =
     (subst (Holds r) (sym h.0) (each r), all_failed Holds each requests answers h.1)
 all_failed Holds each requests answers h = absurd h
 
+-- A fact of the state that each next state keeps: what then holds of each reply, and of StoreFailed and NoMemory, holds
+-- of each of a desk's answers.
+pub all_answers : (terms : Terms) (Is : List Deposit → Type 0) (Holds : Asked → Answer → Type 0)
+    → ((r : Asked) → Holds r StoreFailed) → ((r : Asked) → Holds r NoMemory)
+    → ((state next : List Deposit) (r : Asked) (a : Answer) → Is state → IsReply terms state r a
+    → IsNext terms state r next → Holds r a × Is next)
+    → (state : List Deposit) (requests : List Asked) (answers : List Answer) (last : List Deposit) → Is state
+    → AreAnswers terms state requests answers last → Is last × AllZip Holds requests answers
+unfolding IsAnswer IsAfter
+all_answers terms Is Holds failed dry each state [] [] last is h = (subst Is (sym h) is, tt)
+all_answers terms Is Holds failed dry each state (r ∷ requests) (StoreFailed ∷ answers) last is h =
+    (subst Is (sym h.1.0) is, (failed r, all_failed Holds failed requests answers h.1.1))
+all_answers terms Is Holds failed dry each state (r ∷ requests) (NoMemory ∷ answers) last is h =
+    let after = out_of_memory terms state r requests answers last h in
+    let rest = all_answers terms Is Holds failed dry each state requests answers last is after in
+    (rest.0, (dry r, rest.1))
+all_answers terms Is Holds failed dry each state (r ∷ requests) (a ∷ answers) last is h =
+    let here = each state h.1.0 r a is h.0 h.1.1 in
+    let rest = all_answers terms Is Holds failed dry each h.1.0 requests answers last here.1 h.1.2 in
+    (rest.0, (here.0, rest.1))
+all_answers terms Is Holds failed dry each state requests answers last is h = absurd h
+
 pub answers_run : AnswersAreARun
 unfolding IsAnswer IsAfter
 answers_run terms state [] [] last h = (refl, h)

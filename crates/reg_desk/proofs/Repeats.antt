@@ -1,9 +1,8 @@
 -- A repeat gets the receipt of the first equal deposit, in each later state.
-use Rattle.std.proofs.Common.{◌≡◌, ℕ, ◌+◌, ◌≤◌, Bool, true, false, cond, ◌&&◌, Some, None, List, [], ◌∷◌, ◌++◌, length, refl, sym, ap, subst, ◌∙◌, inl, inr, arith, Option}
+use Rattle.std.proofs.Common.{◌≡◌, ℕ, ◌+◌, ◌≤◌, Bool, true, false, cond, Some, None, List, [], ◌∷◌, ◌++◌, length, refl, sym, ap, subst, ◌∙◌, inl, inr, arith, Option}
 use Rattle.std.specs.Prelude.{ℤ}
-use Rattle.std.specs.List.{AllZip}
 use Rattle.std.specs.Str.{bytes_eq}
-use Rattle.std.proofs.lemmas.Bool.{cond-true, ltb-false}
+use Rattle.std.proofs.lemmas.Bool.{and_from, cond-true, ltb-false}
 use Rattle.std.proofs.lemmas.Slice.Eq.{bytes_eq-Decides}
 use Rattle.ags_rows.specs.declared.TheConstants.{LIMIT}
 use Rattle.ags_check.specs.Findings.{Findings as AreFindings}
@@ -11,15 +10,15 @@ use Rattle.reg_policy.specs.declared.callers.Caller.{Caller}
 use Rattle.reg_policy.specs.declared.subject.Decision.{Decision}
 use Rattle.reg_policy.specs.declared.subject.Verb.TheVariants as verbs
 use Rattle.reg_store.specs.Sent.{Sent, is_repeat}
-use Rattle.reg_store.specs.Deposit.{Deposit, sents, sents_marked, unmarked}
+use Rattle.reg_store.specs.Deposit.{Deposit, sents, sents_with_withdrawn, new_deposit}
 use Rattle.reg_desk.specs.Asked.{Asked, deposit, withdraw}
 use Rattle.reg_desk.specs.declared.answer.Answer.{Answer}
 use Rattle.reg_desk.specs.declared.answer.Answer.TheVariants.{NoMemory, Receipt, StoreFailed}
 use Rattle.reg_desk.specs.Machine.{Terms, decided, OrDenied, OrRefused, IsPermit, first_equal, receipt_of, IsReply, asked_deposit, IsNext}
-use Rattle.reg_desk.specs.Running.{AreAnswers}
+use Rattle.reg_desk.specs.Serving.{IsAnswer, IsAfter}
 use Rattle.reg_desk.specs.Laws.{GetsReceipt, IsModelAnswer, RepeatIsReceived}
 use Rattle.reg_desk.proofs.Lasting.{receipt_fields, receipt_first}
-use Rattle.reg_desk.proofs.ModelAnswers.{all_failed, first_answer}
+use Rattle.reg_desk.proofs.ModelAnswers.{all_answers}
 use Rattle.reg_desk.proofs.Taken.{IsReceipt, clean_stands, not_refused, taken_received}
 
 -- ---- the first equal deposit
@@ -64,13 +63,8 @@ first_last m firm project bytes (k ∷ state) d is h =
 repeats_itself : (caller : Caller) (project : List ℕ) (embargo : ℤ) (bytes : List ℕ)
     → is_repeat caller.firm project bytes (asked_deposit caller project embargo bytes) ≡ true
 repeats_itself caller project embargo bytes =
-    all (bytes_eq caller.firm caller.firm) (bytes_eq project project) (bytes_eq bytes bytes) ((bytes_eq-Decides caller.firm caller.firm).1 refl)
-    ((bytes_eq-Decides project project).1 refl) ((bytes_eq-Decides bytes bytes).1 refl)
-  where
-    all : (a b c : Bool) → a ≡ true → b ≡ true → c ≡ true → (a && (b && c)) ≡ true
-    all true true c x y z = z
-    all true false c x y z = absurd cc
-    all false b c x y z = absurd cc
+    and_from (bytes_eq caller.firm caller.firm) _ ((bytes_eq-Decides caller.firm caller.firm).1 refl)
+    (and_from (bytes_eq project project) (bytes_eq bytes bytes) ((bytes_eq-Decides project project).1 refl) ((bytes_eq-Decides bytes bytes).1 refl))
 
 -- no request changes which deposit is the first
 stays_first : (terms : Terms) (request : Asked) (state next : List Deposit) (firm project bytes : List ℕ) (p : ℕ × ℤ)
@@ -80,10 +74,10 @@ stays_first terms request state next firm project bytes p (inr h) first =
     ap (λ (l : List Deposit). first_equal 1 firm project bytes (sents l)) h.1 ∙ first
 stays_first terms (deposit caller of embargo body day) state next firm project bytes p (inl h) first =
     ap (λ (l : List Deposit). first_equal 1 firm project bytes (sents l)) h.1
-    ∙ first_stays 1 firm project bytes state (unmarked (asked_deposit caller of embargo body)) p first
+    ∙ first_stays 1 firm project bytes state (new_deposit (asked_deposit caller of embargo body)) p first
 stays_first terms (withdraw caller of number day) state next firm project bytes p (inl h) first =
     ap (λ (l : List Deposit). first_equal 1 firm project bytes (sents l)) h.1
-    ∙ ap (λ (l : List Sent). first_equal 1 firm project bytes l) (sents_marked number state) ∙ first
+    ∙ ap (λ (l : List Sent). first_equal 1 firm project bytes l) (sents_with_withdrawn number state) ∙ first
 stays_first terms request state next firm project bytes p (inl h) first = absurd h
 
 -- ---- a receipt
@@ -112,7 +106,7 @@ received terms caller project embargo bytes day state next n e is step =
       first = elim step [
         | inl h ↦
             let fields = receipt_fields n (length state + 1) e embargo (law.0 h.0) in
-            let new = unmarked (asked_deposit caller project embargo bytes) in
+            let new = new_deposit (asked_deposit caller project embargo bytes) in
             let place : 1 + length state ≡ n = omega (arith, fields.0) in
             ap First h.1
             ∙ first_last 1 caller.firm project bytes state new (repeats_itself caller project embargo bytes) h.0.3
@@ -155,45 +149,17 @@ gets_none terms firm project bytes receipt a none (deposit caller of embargo bod
     λ same_firm same_project same_bytes permit model. absurd (none model)
 gets_none terms firm project bytes receipt a none r = tt
 
-all_get : (terms : Terms) (firm project bytes : List ℕ) (n : ℕ) (e : ℤ) (state : List Deposit) (requests : List Asked)
-    (answers : List Answer) (last : List Deposit) → IsReceived terms state firm project bytes n e
-    → AreAnswers terms state requests answers last
-    → AllZip (GetsReceipt terms firm project bytes (Receipt n e)) requests answers
-all_get terms firm project bytes n e state [] [] last was h = tt
-all_get terms firm project bytes n e state (r ∷ requests) (a ∷ answers) last was h =
-    let Gets = GetsReceipt terms firm project bytes (Receipt n e) in
-    let none = gets_none terms firm project bytes (Receipt n e) in
-    elim (first_answer terms state r requests a answers last h) [
-      | inl failed ↦ (
-        subst (Gets r) (sym failed.0) (none StoreFailed (λ x. x) r),
-        all_failed Gets (none StoreFailed (λ x. x)) requests answers failed.2,
-      )
-      | inr lives ↦ elim lives [
-        | inl dry ↦ (
-          subst (Gets r) (sym dry.0) (none NoMemory (λ x. x) r),
-          all_get terms firm project bytes n e state requests answers last was dry.1,
-        )
-        | inr is ↦
-            let later : IsReceived terms is.2 firm project bytes n e = record {
-              small = was.small;
-              clean = was.clean;
-              first = stays_first terms r state is.2 firm project bytes (n, e) is.3 was.first;
-            } in (
-              gets terms state firm project bytes n e was r a is.1,
-              all_get terms firm project bytes n e is.2 requests answers last later is.4,
-            )
-      ]
-    ]
-all_get terms firm project bytes n e state requests answers last was h = absurd h
-
 pub repeat_received : RepeatIsReceived
+unfolding IsAnswer IsAfter
 repeat_received terms state caller project embargo bytes day n until requests answers last h =
-    elim (first_answer terms state (deposit caller project embargo bytes day) requests (Receipt n until) answers last h) [
-      | inl failed ↦ let e : Receipt n until ≡ StoreFailed = failed.0 in absurd cc
-      | inr lives ↦ elim lives [
-        | inl dry ↦ let e : Receipt n until ≡ NoMemory = dry.0 in absurd cc
-        | inr is ↦
-            all_get terms caller.firm project bytes n until is.2 requests answers last
-            (received terms caller project embargo bytes day state is.2 n until is.1 is.3) is.4
-      ]
-    ]
+    let Gets = GetsReceipt terms caller.firm project bytes (Receipt n until) in
+    let none = gets_none terms caller.firm project bytes (Receipt n until) in
+    (all_answers terms (λ s. IsReceived terms s caller.firm project bytes n until) Gets (none StoreFailed (λ x. x))
+    (none NoMemory (λ x. x)) (λ s next r a was reply step. (
+      gets terms s caller.firm project bytes n until was r a reply,
+      record {
+        small = was.small;
+        clean = was.clean;
+        first = stays_first terms r s next caller.firm project bytes (n, until) step was.first;
+      },
+    )) h.1.0 requests answers last (received terms caller project embargo bytes day state h.1.0 n until h.0 h.1.1) h.1.2).1

@@ -1,5 +1,5 @@
 -- A list of requests, from the answer to each.
-use Rattle.std.proofs.Common.{◌≡◌, ℕ, zero, suc, ◌<◌, length, arith, Bool, true, false, cond, Option, Some, None, List, [], ◌∷◌, ◌++◌, map, take, get_or, refl, sym, ap, subst, ◌∙◌, inl, inr}
+use Rattle.std.proofs.Common.{◌≡◌, ℕ, Bool, true, false, cond, Option, Some, None, List, [], ◌∷◌, ◌++◌, refl, sym, ap, subst, ◌∙◌, inl, inr}
 use Rattle.std.specs.List.{find, zip}
 use Rattle.std.proofs.lemmas.Bool.{true≢false, cases_Bool}
 use Rattle.std.proofs.Props.{props}
@@ -8,8 +8,7 @@ use Rattle.std.specs.Prelude.{option_map}
 use Rattle.reg_policy.specs.declared.rule.Rule.{Rule}
 use Rattle.reg_store.specs.Deposit.{Deposit}
 use Rattle.reg_store.specs.declared.keep.Keep.{Ghosts}
-use Rattle.reg_desk.specs.Asked.{Asked, asked}
-use Rattle.reg_desk.specs.declared.request.Request.{Request}
+use Rattle.reg_desk.specs.Asked.{Asked}
 use Rattle.reg_desk.specs.declared.answer.Answer.{Answer}
 use Rattle.reg_desk.specs.declared.desk.Desk.{Desk}
 use Rattle.reg_desk.specs.Desks.{AnsweredBy, AreAnsweredBy, StepsAreARun, EndsARun}
@@ -58,8 +57,8 @@ runs_fail keep rules old new r a requests answers settled unbroken works sound f
     let this_fails : failing (r ∷ requests) (a ∷ answers) ≡ Some r = first_fails (is_failed a) fails (find (λ p. is_failed p.1) (zip requests answers)) in
     record {
       last = keep.deposits old;
-      answered = (is, where_true (is_failed a) _ _ fails (refl, failed));
-      kept = λ e. absurd (some_none (sym this_fails ∙ e));
+      are_answers = (is, where_true (is_failed a) _ _ fails (refl, failed));
+      final = λ e. absurd (some_none (sym this_fails ∙ e));
       left = λ bytes list may.
           elim (serves.crash sound bytes list may) [
             | inl was ↦ let own = settled old bytes list (serves.sound sound) works was in (own.0, inl own.1)
@@ -83,11 +82,11 @@ runs_on keep rules old mid new r a requests answers sound lives serves is rest =
     let later : failing (r ∷ requests) (a ∷ answers) ≡ failing requests answers = skip (is_failed a) lives (find (λ p. is_failed p.1) (zip requests answers)) in
     record {
       last = rest.last;
-      answered = (
+      are_answers = (
         is,
-        where_false (is_failed a) _ _ lives (keep.deposits mid, serves.kept sound, subst (λ (g : Terms). AreAnswers g (keep.deposits mid) requests answers rest.last) terms rest.answered),
+        where_false (is_failed a) _ _ lives (keep.deposits mid, serves.after sound, subst (λ (g : Terms). AreAnswers g (keep.deposits mid) requests answers rest.last) terms rest.are_answers),
       );
-      kept = λ e. rest.kept (sym later ∙ e);
+      final = λ e. rest.final (sym later ∙ e);
       left = λ bytes list may.
           let then = rest.left bytes list may in (
             then.0 ∙ serves.same_text sound lives,
@@ -109,12 +108,12 @@ desk_runs {K = K} keep old new [] [] settled unbroken by sound works =
     let was = was_sound keep old new [] [] by sound in
     let fine : keep.has_failed old.keep ≡ false = sym (old.exact was) ∙ works in
     subst (λ (d : Desk K keep). ∥ Runs keep old.policy old.keep d.keep [] [] ∥₁) (sym by)
-    ∣ record { last = keep.deposits old.keep; answered = refl; kept = λ e. refl; left = λ bytes list may. (let own = settled old.keep bytes list was fine may in (own.0, inl own.1)); whole = unbroken old.keep was fine } ∣₁
+    ∣ record { last = keep.deposits old.keep; are_answers = refl; final = λ e. refl; left = λ bytes list may. (let own = settled old.keep bytes list was fine may in (own.0, inl own.1)); whole = unbroken old.keep was fine } ∣₁
 desk_runs {K = K} keep old new (r ∷ requests) (a ∷ answers) settled unbroken by sound works =
     let mid = by.0 in
     let then_sound = was_sound keep mid new requests answers by.2 sound in
     let serves = by.1.served works in
-    ∥∥₁_elim (serves.answered then_sound) (Prim.hlevel props) (λ (is : IsAnswer (terms_at keep old.policy old.keep) (keep.deposits old.keep) r a).
+    ∥∥₁_elim (serves.is_answer then_sound) (Prim.hlevel props) (λ (is : IsAnswer (terms_at keep old.policy old.keep) (keep.deposits old.keep) r a).
     elim (cases_Bool (is_failed a)) [
       | inl fails ↦
           let stuck = stays_failed keep mid new requests answers by.2 (by.1.failed ∙ fails) in
@@ -149,10 +148,3 @@ pub ends_run : {K : Type 0} (keep : Ghosts K) → Settled keep → Unbroken keep
 ends_run keep settled unbroken old new request answer by first requests answers before =
     steps_run keep settled unbroken first new (requests ++ request ∷ []) (answers ++ answer ∷ [])
     (answered_more keep first old new requests answers request answer before by)
-
--- ---- the loop
-
-pub asked_more : (requests : List Request) (i : ℕ) (d : Request) → i < length requests → map asked (take (suc i) requests) ≡ map asked (take i requests) ++ asked (get_or requests i d) ∷ []
-asked_more [] i d lt = absurd (omega (arith, lt))
-asked_more (r ∷ requests) zero d lt = refl
-asked_more (r ∷ requests) (suc i) d lt = ap (λ (l : List Asked). asked r ∷ l) (asked_more requests i d (omega (arith, lt)))

@@ -1,9 +1,9 @@
--- A body is taken exactly where the reply is the receipt of a new number, and a deposit is withdrawn exactly where the
--- reply is so.
-use Rattle.std.proofs.Common.{◌≡◌, ℕ, ◌+◌, ◌≤◌, ◌<◌, Bool, true, false, cond, Option, Some, None, List, [], ◌∷◌, length, refl, sym, ap, subst, ◌∙◌, arith}
-use Rattle.std.specs.Prelude.{ℤ, nat_lt, MatchBool}
-use Rattle.std.proofs.lemmas.Bool.{cond-true, lt-ltb, le-ltb, ltb-true, ltb-false}
-use Rattle.std.proofs.lemmas.Option.{slice_get_within}
+-- The first equal deposit. A body is taken exactly where the reply is the receipt of a new number, and a deposit is
+-- withdrawn exactly where the reply is so.
+use Rattle.std.proofs.Common.{◌≡◌, ℕ, ◌+◌, ◌≤◌, ◌<◌, Bool, true, false, cond, Option, Some, None, List, [], ◌∷◌, length, refl, sym, ap, subst, ◌∙◌, arith, suc, ◌&&◌}
+use Rattle.std.specs.Prelude.{ℤ, nat_lt, MatchBool, slice_get, option_map}
+use Rattle.std.proofs.lemmas.Bool.{cond-true, lt-ltb, le-ltb, ltb-true, ltb-false, and_parts}
+use Rattle.std.proofs.lemmas.Option.{slice_get_within, same_Some}
 use Rattle.ags_rows.specs.declared.finding.Finding.{Finding}
 use Rattle.ags_rows.specs.declared.TheConstants.{LIMIT}
 use Rattle.ags_check.specs.Findings.{Findings as AreFindings}
@@ -18,8 +18,76 @@ use Rattle.reg_desk.specs.Asked.{deposit, withdraw}
 use Rattle.reg_desk.specs.declared.answer.Answer.{Answer}
 use Rattle.reg_desk.specs.declared.answer.Answer.TheVariants.{Receipt, Findings, Denied, Unknown, TooLarge, Full, Withdrawn}
 use Rattle.reg_desk.specs.Machine.{Terms, decided, OrDenied, OrFound, OrRefused, first_equal, receipt_of, held, is_own, withdrawal_of, IsReply, IsTaken, IsWithdrawn}
-use Rattle.reg_desk.proofs.Firsts.{first_at}
 use Rattle.reg_desk.specs.Laws.{TakenIsReceived, WithdrawnIsReplied}
+use Rattle.std.specs.List.{position_from}
+use Rattle.std.specs.Str.{bytes_eq}
+use Rattle.std.proofs.lemmas.Slice.Eq.{bytes_eq-Decides}
+use Rattle.reg_store.specs.Sent.{Sent, is_repeat, number_of}
+
+-- the number alone
+abbrev number_in : Option (ℕ × ℤ) → Option ℕ
+number_in o = option_map (λ (p : ℕ × ℤ). p.0) o
+
+-- the number that the store finds is that of the first equal deposit
+number_is : (firm project bytes : List ℕ) (n : ℕ) (list : List Sent)
+    → position_from (is_repeat firm project bytes) n list ≡ number_in (first_equal n firm project bytes list)
+number_is firm project bytes n [] = refl
+number_is firm project bytes n (d ∷ list) =
+    step (is_repeat firm project bytes d) (position_from (is_repeat firm project bytes) (n + 1) list) (first_equal (n + 1) firm project bytes list) (number_is firm project bytes (n + 1) list)
+  where
+    step : (t : Bool) (rest : Option ℕ) (more : Option (ℕ × ℤ)) → rest ≡ number_in more → cond t (Some n) rest ≡ number_in (cond t (Some (n, d.embargo)) more)
+    step true rest more same = refl
+    step false rest more same = same
+
+-- none is equal where the store finds none
+pub none_held : (firm project bytes : List ℕ) (list : List Sent) → None ≡ number_of firm project bytes list → None ≡ first_equal 1 firm project bytes list
+none_held firm project bytes list h = none (first_equal 1 firm project bytes list) (h ∙ number_is firm project bytes 1 list)
+  where
+    none : (o : Option (ℕ × ℤ)) → None ≡ number_in o → None ≡ o
+    none None e = refl
+    none (Some held) e = absurd cc
+
+pub none_number : (firm project bytes : List ℕ) (n : ℕ) (list : List Sent) → first_equal n firm project bytes list ≡ None → position_from (is_repeat firm project bytes) n list ≡ None
+none_number firm project bytes n list h = number_is firm project bytes n list ∙ ap number_in h
+
+-- an equal deposit has this firm, this project and these bytes
+repeat_is : (firm project bytes : List ℕ) (d : Sent) → is_repeat firm project bytes d ≡ true → d ≡ record { firm = firm; project = project; embargo = d.embargo; bytes = bytes }
+repeat_is firm project bytes d e =
+    let all = and_parts (bytes_eq d.firm firm) (bytes_eq d.project project && bytes_eq d.bytes bytes) e in
+    let rest = and_parts (bytes_eq d.project project) (bytes_eq d.bytes bytes) all.1 in
+    ap (λ (f : List ℕ). record { firm = f; project = d.project; embargo = d.embargo; bytes = d.bytes }) ((bytes_eq-Decides d.firm firm).0 all.0)
+    ∙ ap (λ (p : List ℕ). record { firm = firm; project = p; embargo = d.embargo; bytes = d.bytes })
+    ((bytes_eq-Decides d.project project).0 rest.0)
+    ∙ ap (λ (b : List ℕ). record { firm = firm; project = project; embargo = d.embargo; bytes = b })
+    ((bytes_eq-Decides d.bytes bytes).0 rest.1)
+
+abbrev pub IsFirstAt : List ℕ → List ℕ → List ℕ → ℕ → List Sent → ℕ → ℤ → Type 0
+IsFirstAt firm project bytes n list k e = (i : ℕ) × (k ≡ n + i) × (slice_get list i ≡ Some (record { firm = firm; project = project; embargo = e; bytes = bytes }))
+
+-- the first equal deposit is this one, at its place
+pub first_at : (firm project bytes : List ℕ) (n : ℕ) (list : List Sent) (k : ℕ) (e : ℤ) → first_equal n firm project bytes list ≡ Some (k, e) → IsFirstAt firm project bytes n list k e
+first_at firm project bytes n [] k e h = absurd cc
+first_at firm project bytes n (d ∷ list) k e h = step (is_repeat firm project bytes d) refl h (first_at firm project bytes (n + 1) list k e)
+  where
+    step : (t : Bool) → is_repeat firm project bytes d ≡ t → cond t (Some (n, d.embargo)) (first_equal (n + 1) firm project bytes list) ≡ Some (k, e)
+        → (first_equal (n + 1) firm project bytes list ≡ Some (k, e) → IsFirstAt firm project bytes (n + 1) list k e) → IsFirstAt firm project bytes n (d ∷ list) k e
+    step true is h rest =
+        let pair : (n, d.embargo) ≡ (k, e) = same_Some (n, d.embargo) (k, e) h in
+        let number : n ≡ k = ap (λ (p : ℕ × ℤ). p.0) pair in
+        let day : d.embargo ≡ e = ap (λ (p : ℕ × ℤ). p.1) pair in
+        (0, omega (arith, number), ap (λ (x : Sent). Some x) (repeat_is firm project bytes d is ∙ ap (λ (x : ℤ). record { firm = firm; project = project; embargo = x; bytes = bytes }) day))
+    step false is h rest = let r = rest h in (suc r.0, omega (arith, r.1), r.2)
+
+-- the deposit of the number that the store finds
+pub first_some : (firm project bytes : List ℕ) (list : List Sent) (n : ℕ) → number_of firm project bytes list ≡ Some n
+    → (e : ℤ) × (first_equal 1 firm project bytes list ≡ Some (n, e)) × IsFirstAt firm project bytes 1 list n e
+first_some firm project bytes list n found =
+    let some = numbered (first_equal 1 firm project bytes list) (sym (number_is firm project bytes 1 list) ∙ found) in
+    (some.0, some.1, first_at firm project bytes 1 list n some.0 some.1)
+  where
+    numbered : (o : Option (ℕ × ℤ)) → number_in o ≡ Some n → (e : ℤ) × (o ≡ Some (n, e))
+    numbered None e = absurd cc
+    numbered (Some p) e = (p.1, ap (λ (m : ℕ). Some (m, p.1)) (same_Some p.0 n e))
 
 -- what holds of the receipt
 abbrev pub IsReceipt : Terms → List Deposit → Caller → List ℕ → ℤ → List ℕ → Answer → Type 0

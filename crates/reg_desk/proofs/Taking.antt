@@ -1,5 +1,5 @@
 -- A deposit: taken once, with a receipt.
-use Rattle.std.proofs.Common.{◌≡◌, ◌≢◌, ℕ, ◌+◌, ◌-◌, ◌<◌, ◌≤◌, Bool, false, cond, Option, Some, None, Ok, Err, List, [], ◌∷◌, ◌++◌, refl, sym, ap, subst, ◌∙◌, inr, arith, length-append}
+use Rattle.std.proofs.Common.{◌≡◌, ◌≢◌, ℕ, ◌+◌, ◌-◌, ◌<◌, ◌≤◌, Bool, true, false, cond, Option, Some, None, Ok, Err, List, [], ◌∷◌, ◌++◌, refl, sym, ap, subst, ◌∙◌, inr, arith, length-append}
 use Rattle.std.specs.Prelude.{ℤ, nat_lt, length, slice_get, Result}
 use Rattle.std.proofs.lemmas.Bool.{cond_both, le-ltb, lt-ltb}
 use Rattle.std.proofs.lemmas.Option.{none-some, slice_get_within}
@@ -12,9 +12,9 @@ use Rattle.reg_policy.specs.declared.subject.Decision.{Decision}
 use Rattle.reg_policy.specs.declared.subject.Decision.TheVariants.{Permit}
 use Rattle.reg_policy.specs.declared.subject.Verb.TheVariants as verbs
 use Rattle.reg_store.specs.Sent.{Sent, number_of}
-use Rattle.reg_store.specs.Deposit.{Deposit, sents, unmarked}
+use Rattle.reg_store.specs.Deposit.{Deposit, sents, new_deposit}
 use Rattle.reg_store.proofs.Lemmas.{length_sents, deposit_at}
-use Rattle.reg_store.specs.Keep.{is_store, IsHeadOf}
+use Rattle.reg_store.specs.Keep.{IsHeadOf}
 use Rattle.reg_store.specs.declared.keep.Keep.{Ghosts}
 use Rattle.reg_store.specs.declared.keep.KeepError.{KeepError}
 use Rattle.reg_store.specs.declared.keep.KeptHead.{KeptHead}
@@ -24,10 +24,9 @@ use Rattle.reg_desk.specs.declared.answer.Answer.{Answer}
 use Rattle.reg_desk.specs.declared.answer.Answer.TheVariants.{Receipt, Full}
 use Rattle.reg_desk.specs.Machine.{Terms, decided, OrRefused, first_equal, receipt_of, IsReply, IsTaken, asked_deposit, IsNext}
 use Rattle.reg_desk.specs.Serving.{AsksStore, IsRefusal, terms_at, OnlyReads, Serves, answer_of}
-use Rattle.reg_desk.proofs.Taken.{IsReceipt, taken_received}
-use Rattle.reg_desk.proofs.Firsts.{first_some}
+use Rattle.reg_desk.proofs.Taken.{IsReceipt, taken_received, first_some}
 use Rattle.reg_desk.proofs.Bodies.{refused_none, refusal_serves}
-use Rattle.reg_desk.proofs.Serves.{Makes, IsMaking, made_serves, unmade_serves, one_owed, asks_of, refused_serves, replies_serves, permitted_reply}
+use Rattle.reg_desk.proofs.Serves.{Makes, IsMaking, made_serves, unmade_serves, one_owed, asks_of, replies_serves, permitted_reply}
 
 -- ---- the reply
 
@@ -50,13 +49,12 @@ receipt_asks terms embargo count None =
 
 -- ---- what is not taken
 
-receipt_new : (terms : Terms) (embargo : ℤ) (count : ℕ) (first : Option (ℕ × ℤ)) → first ≡ None → count < terms.most → Receipt (count + 1) embargo ≡ receipt_of terms embargo count first
-receipt_new terms embargo count first none room =
-    ap (λ (t : Bool). cond t (Receipt (count + 1) embargo) Full) (sym (lt-ltb count terms.most room)) ∙ ap (receipt_of terms embargo count) (sym none)
-
-receipt_full : (terms : Terms) (embargo : ℤ) (count : ℕ) (first : Option (ℕ × ℤ)) → first ≡ None → terms.most ≤ count → Full ≡ receipt_of terms embargo count first
-receipt_full terms embargo count first none full =
-    ap (λ (t : Bool). cond t (Receipt (count + 1) embargo) Full) (sym (le-ltb count terms.most full)) ∙ ap (receipt_of terms embargo count) (sym none)
+-- where no equal deposit is held: the receipt of a new one, or that there is no room
+receipt_none : (terms : Terms) (embargo : ℤ) (count : ℕ) (first : Option (ℕ × ℤ)) (room : Bool) → first ≡ None
+    → nat_lt count terms.most ≡ room
+    → cond room (Receipt (count + 1) embargo) Full ≡ receipt_of terms embargo count first
+receipt_none terms embargo count first room none is =
+    ap (λ (t : Bool). cond t (Receipt (count + 1) embargo) Full) (sym is) ∙ ap (receipt_of terms embargo count) (sym none)
 
 refusal_other : (terms : Terms) (bytes : List ℕ) (n : ℕ) (e : ℤ) (answer : Answer) → IsRefusal terms.dictionary bytes answer → answer ≢ Receipt n e
 refusal_other terms bytes n e answer refusal same = subst (IsRefusal terms.dictionary bytes) same refusal
@@ -103,7 +101,7 @@ is_taken keep rules caller project bytes day old mid fine reads unheld room s =
 
 -- the call that appends the deposit
 abbrev pub Appends : {K : Type 0} → Ghosts K → Sent → K → K → Result ℕ KeepError → Type 0
-Appends keep d old new result = Makes keep (keep.deposits old ++ unmarked d ∷ []) old new result
+Appends keep d old new result = Makes keep (keep.deposits old ++ new_deposit d ∷ []) old new result
 
 module _ {K : Type 0} (keep : Ghosts K) (rules : List Rule) (caller : Caller) (project : List ℕ) (embargo : ℤ) (bytes : List ℕ) (day : ℤ) (old : K) where
   abbrev terms : Terms
@@ -128,7 +126,7 @@ module _ {K : Type 0} (keep : Ghosts K) (rules : List Rule) (caller : Caller) (p
   fine_reply answer fine is =
       permitted_reply ruling fine.number (OrRefused terms bytes Stands) answer fine.permitted (refused_none terms bytes Stands answer fine.small fine.clean is)
 
-  fine_asks : IsFine terms caller project bytes day → AsksStore (IsReply terms state request)
+  pub fine_asks : IsFine terms caller project bytes day → AsksStore (IsReply terms state request)
   fine_asks fine =
       let receipt = receipt_of terms embargo (length state) first in
       asks_of Stands (IsReply terms state request) (λ reply is. one_owed terms state request receipt reply is (fine_reply receipt fine refl))
@@ -145,10 +143,6 @@ module _ {K : Type 0} (keep : Ghosts K) (rules : List Rule) (caller : Caller) (p
       (receipt_asks terms embargo (length state) first).0 (λ r h. h) (λ r h. h)
       (λ r h is. untaken r (refusal_other terms bytes (length state + 1) embargo r h) is)
 
-  pub deposit_unread : (new : K) (e : KeepError) → IsFine terms caller project bytes day → OnlyReads keep old new (is_store e) → e ≢ errors.Full
-      → Serves keep rules request old new (answer_of e)
-  deposit_unread new e fine reads named = refused_serves keep rules request old new e reads named (fine_asks fine)
-
   -- an equal deposit is held
   pub deposit_repeats : (new : K) (n : ℕ) (e : ℤ) → IsFine terms caller project bytes day → OnlyReads keep old new false
       → (keep.is_sound new → first ≡ Some (n, e)) → Serves keep rules request old new (Receipt n e)
@@ -160,11 +154,11 @@ module _ {K : Type 0} (keep : Ghosts K) (rules : List Rule) (caller : Caller) (p
   appending : (mid new : K) (result : Result ℕ KeepError) → IsFine terms caller project bytes day → OnlyReads keep old mid false
       → (keep.is_sound mid → IsTaken terms state caller project bytes day)
       → Appends keep (asked_deposit caller project embargo bytes) mid new result
-      → IsMaking keep rules request old mid new (keep.deposits mid ++ unmarked (asked_deposit caller project embargo bytes) ∷ []) result
+      → IsMaking keep rules request old mid new (keep.deposits mid ++ new_deposit (asked_deposit caller project embargo bytes) ∷ []) result
   appending mid new result fine reads taken appends = record {
     reads = reads;
     makes = appends;
-    change = λ s. (taken s, ap (λ (l : List Deposit). l ++ unmarked (asked_deposit caller project embargo bytes) ∷ []) (reads.same s refl));
+    change = λ s. (taken s, ap (λ (l : List Deposit). l ++ new_deposit (asked_deposit caller project embargo bytes) ∷ []) (reads.same s refl));
     asks = fine_asks fine;
   }
 
@@ -173,7 +167,7 @@ module _ {K : Type 0} (keep : Ghosts K) (rules : List Rule) (caller : Caller) (p
       → Appends keep (asked_deposit caller project embargo bytes) mid new (Ok n) → (keep.is_sound new → n ≡ length (keep.deposits new))
       → Serves keep rules request old new (Receipt n embargo)
   deposit_added mid new n fine reads taken appends number =
-      let d = unmarked (asked_deposit caller project embargo bytes) in
+      let d = new_deposit (asked_deposit caller project embargo bytes) in
       let count : keep.is_sound new → n ≡ length state + 1 = λ s.
       let same = ap length (reads.same (appends.sound s) refl) in
       omega (arith, number s, ap length (appends.added s), length-append (keep.deposits mid) (d ∷ []), same) in
@@ -182,7 +176,7 @@ module _ {K : Type 0} (keep : Ghosts K) (rules : List Rule) (caller : Caller) (p
       (λ s.
       let is = taken (appends.sound s) in
       fine_reply (Receipt n embargo) fine
-      (ap (λ (k : ℕ). Receipt k embargo) (count s) ∙ receipt_new terms embargo (length state) first is.3 is.4))
+      (ap (λ (k : ℕ). Receipt k embargo) (count s) ∙ receipt_none terms embargo (length state) first true is.3 (lt-ltb (length state) terms.most is.4)))
 
   -- there is no room
   pub deposit_full : (mid : K) → IsFine terms caller project bytes day → OnlyReads keep old mid false → (keep.is_sound mid → first ≡ None)
@@ -190,7 +184,7 @@ module _ {K : Type 0} (keep : Ghosts K) (rules : List Rule) (caller : Caller) (p
   deposit_full mid fine reads unheld full =
       let no_room : keep.is_sound mid → terms.most ≤ length state = λ s. omega (arith, full s, ap length (reads.same s refl), reads.same_limit) in
       replies_serves keep rules request old mid Full reads tt
-      (λ s. ∣ fine_reply Full fine (receipt_full terms embargo (length state) first (unheld s) (no_room s)) ∣₁)
+      (λ s. ∣ fine_reply Full fine (receipt_none terms embargo (length state) first false (unheld s) (le-ltb (length state) terms.most (no_room s))) ∣₁)
       (λ s. inr (λ list change. omega (arith, change.0.4, no_room s), refl)) (fine_asks fine).0
 
   -- the store refuses to append
@@ -200,7 +194,7 @@ module _ {K : Type 0} (keep : Ghosts K) (rules : List Rule) (caller : Caller) (p
       → (keep.is_sound new → e ≡ errors.Full → length (keep.deposits mid) ≡ keep.limit mid)
       → Serves keep rules request old new (answer_of e)
   deposit_unadded mid new e fine reads taken appends full =
-      unmade_serves keep rules request old mid new (keep.deposits mid ++ unmarked (asked_deposit caller project embargo bytes) ∷ []) e
+      unmade_serves keep rules request old mid new (keep.deposits mid ++ new_deposit (asked_deposit caller project embargo bytes) ∷ []) e
       (appending mid new (Err e) fine reads taken appends)
       (λ s is.
       let then = appends.sound s in

@@ -1,4 +1,4 @@
--- A withdrawal: a firm's own deposit is marked, and stays kept.
+-- A withdrawal: a firm's own deposit is withdrawn, and stays held.
 use Rattle.std.proofs.Common.{◌≡◌, ◌≢◌, ◌<◌, ◌≤◌, ◌-◌, ℕ, zero, suc, Bool, true, false, cond, Option, Some, None, Ok, Err, List, refl, sym, ap, subst, ◌∙◌, inl, inr, arith}
 use Rattle.std.specs.Prelude.{ℤ, slice_get, length, Result, ◌&&◌}
 use Rattle.std.specs.Str.{bytes_eq}
@@ -9,9 +9,9 @@ use Rattle.reg_policy.specs.declared.callers.Caller.{Caller}
 use Rattle.reg_policy.specs.declared.subject.Decision.{Decision}
 use Rattle.reg_policy.specs.declared.subject.Decision.TheVariants.{Permit}
 use Rattle.reg_policy.specs.declared.subject.Verb.TheVariants as verbs
-use Rattle.reg_store.specs.Deposit.{Deposit, marked}
-use Rattle.reg_store.proofs.Lemmas.{marked_again}
-use Rattle.reg_store.specs.Keep.{IsHeadOf, is_store}
+use Rattle.reg_store.specs.Deposit.{Deposit, with_withdrawn}
+use Rattle.reg_store.proofs.Lemmas.{withdrawn_again}
+use Rattle.reg_store.specs.Keep.{IsHeadOf}
 use Rattle.reg_store.specs.declared.keep.Keep.{Ghosts}
 use Rattle.reg_store.specs.declared.keep.KeepError.{KeepError}
 use Rattle.reg_store.specs.declared.keep.KeepError.TheVariants as errors
@@ -20,12 +20,12 @@ use Rattle.reg_desk.specs.Asked.{Asked, withdraw}
 use Rattle.reg_desk.specs.declared.answer.Answer.{Answer}
 use Rattle.reg_desk.specs.declared.answer.Answer.TheVariants.{Unknown, Withdrawn}
 use Rattle.reg_desk.specs.Machine.{Terms, decided, held, is_own, withdrawal_of, IsReply}
-use Rattle.reg_desk.specs.Serving.{AsksStore, mark_of, terms_at, OnlyReads, Serves, answer_of}
+use Rattle.reg_desk.specs.Serving.{AsksStore, withdrawn_of, terms_at, OnlyReads, Serves, answer_of}
 use Rattle.reg_desk.proofs.Drawing.{held_at}
 use Rattle.reg_desk.proofs.Taken.{own_reply}
-use Rattle.reg_desk.proofs.Serves.{Makes, IsMaking, made_serves, unmade_serves, asks_of, refused_serves, replies_serves, permitted_reply, permit_stands}
+use Rattle.reg_desk.proofs.Serves.{Makes, IsMaking, made_serves, unmade_serves, asks_of, replies_serves, permitted_reply, permit_stands}
 
--- ---- the mark of a firm's own deposit
+-- ---- whether a firm's own deposit is withdrawn
 
 held_within : (state : List Deposit) (number : ℕ) (d : Deposit) → held number state ≡ Some d
     → (0 < number) × (number ≤ length state)
@@ -39,12 +39,12 @@ held_place state (suc n) d holds =
     let e : n ≡ suc n - 1 = omega arith in subst (λ (i : ℕ). slice_get state i ≡ Some d) e holds
 
 -- by its head, which is the project's and the firm's
-pub head_mark : (caller : Caller) (project : List ℕ) (state : List Deposit) (number : ℕ) (head : KeptHead)
+pub head_withdrawn : (caller : Caller) (project : List ℕ) (state : List Deposit) (number : ℕ) (head : KeptHead)
     → 0 < number → number ≤ length state
     → ((d : Deposit) → slice_get state (number - 1) ≡ Some d → IsHeadOf d head) → bytes_eq head.project project ≡ true
     → bytes_eq head.firm caller.firm ≡ true
-    → Some head.withdrawn ≡ mark_of caller project (held number state)
-head_mark caller project state number head low high read of_project of_firm =
+    → Some head.withdrawn ≡ withdrawn_of caller project (held number state)
+head_withdrawn caller project state number head low high read of_project of_firm =
     let d = held_at state number low high in
     let of_head = read d.0 d.1 in
     let own : is_own caller project d.0 ≡ true =
@@ -52,28 +52,28 @@ head_mark caller project state number head low high read of_project of_firm =
     ∙ ap (λ (f : List ℕ). bytes_eq head.project project && bytes_eq f caller.firm) (sym of_head.firm)
     ∙ ap (λ (t : Bool). t && bytes_eq head.firm caller.firm) of_project ∙ of_firm in
     ap (λ (w : Bool). Some w) of_head.withdrawn ∙ ap (λ (t : Bool). cond t (Some d.0.withdrawn) None) (sym own)
-    ∙ sym (ap (mark_of caller project) d.2)
+    ∙ sym (ap (withdrawn_of caller project) d.2)
 
--- the deposit with that mark
+-- the deposit, withdrawn or not
 pub record IsOwned (caller : Caller) (project : List ℕ) (held : Option Deposit) (withdrawn : Bool) : Type 0 where
   pub kept : Deposit
   pub holds : held ≡ Some kept
   pub own : is_own caller project kept ≡ true
-  pub mark : kept.withdrawn ≡ withdrawn
+  pub same : kept.withdrawn ≡ withdrawn
 
 owned : (caller : Caller) (project : List ℕ) (o : Option Deposit) (withdrawn : Bool)
-    → Some withdrawn ≡ mark_of caller project o → IsOwned caller project o withdrawn
+    → Some withdrawn ≡ withdrawn_of caller project o → IsOwned caller project o withdrawn
 owned caller project None withdrawn is = absurd cc
 owned caller project (Some kept) withdrawn is = step (is_own caller project kept) refl is
   where
     step : (t : Bool) → is_own caller project kept ≡ t → Some withdrawn ≡ cond t (Some kept.withdrawn) None
         → IsOwned caller project (Some kept) withdrawn
-    step true own e = record { kept = kept; holds = refl; own = own; mark = sym (same_Some withdrawn kept.withdrawn e) }
+    step true own e = record { kept = kept; holds = refl; own = own; same = sym (same_Some withdrawn kept.withdrawn e) }
     step false own e = absurd cc
 
 -- ---- the reply
 
-unowned_reply : (caller : Caller) (project : List ℕ) (number : ℕ) (o : Option Deposit) → None ≡ mark_of caller project o
+unowned_reply : (caller : Caller) (project : List ℕ) (number : ℕ) (o : Option Deposit) → None ≡ withdrawn_of caller project o
     → (Unknown ≡ withdrawal_of caller project number o)
     × ((kept : Deposit) → o ≡ Some kept → is_own caller project kept ≡ true → ⊥)
 unowned_reply caller project number None is = (refl, λ kept holds own. cc)
@@ -99,7 +99,7 @@ withdrawal_asks caller project number (Some kept) =
 abbrev IsWithdrawal : List Deposit → Caller → List ℕ → ℕ → Answer → Type 0
 IsWithdrawal state caller project number r = r ≡ withdrawal_of caller project number (held number state)
 
-withdraw_asks : (terms : Terms) (state : List Deposit) (caller : Caller) (project : List ℕ) (number : ℕ) (day : ℤ)
+pub withdraw_asks : (terms : Terms) (state : List Deposit) (caller : Caller) (project : List ℕ) (number : ℕ) (day : ℤ)
     (k : ℕ) → decided terms caller project verbs.Withdraw day ≡ Permit k
     → AsksStore (IsReply terms state (withdraw caller project number day))
 withdraw_asks terms state caller project number day k permit =
@@ -110,12 +110,12 @@ withdraw_asks terms state caller project number day k permit =
 
 -- ---- the next state
 
--- a deposit that is marked already
-still_marked : (caller : Caller) (project : List ℕ) (number : ℕ) (state : List Deposit)
-    → IsOwned caller project (held number state) true → state ≡ marked number state
-still_marked caller project number state own =
-    sym (marked_again state number own.kept (held_within state number own.kept own.holds).0
-    (held_place state number own.kept own.holds) own.mark)
+-- a deposit that is withdrawn already
+still_withdrawn : (caller : Caller) (project : List ℕ) (number : ℕ) (state : List Deposit)
+    → IsOwned caller project (held number state) true → state ≡ with_withdrawn number state
+still_withdrawn caller project number state own =
+    sym (withdrawn_again state number own.kept (held_within state number own.kept own.holds).0
+    (held_place state number own.kept own.holds) own.same)
 
 -- ---- the answers to a withdrawal
 
@@ -132,13 +132,8 @@ module _ {K : Type 0} (keep : Ghosts K) (rules : List Rule) (caller : Caller) (p
   abbrev ruling : Decision
   ruling = decided terms caller project verbs.Withdraw day
 
-  pub withdraw_unread : (new : K) (k : ℕ) (e : KeepError) → ruling ≡ Permit k → OnlyReads keep old new (is_store e) → e ≢ errors.Full
-      → Serves keep rules request old new (answer_of e)
-  withdraw_unread new k e permit reads named =
-      refused_serves keep rules request old new e reads named (withdraw_asks terms state caller project number day k permit)
-
   pub withdraw_unknown : (new : K) (k : ℕ) → ruling ≡ Permit k → OnlyReads keep old new false
-      → (keep.is_sound new → None ≡ mark_of caller project (held number state)) → Serves keep rules request old new Unknown
+      → (keep.is_sound new → None ≡ withdrawn_of caller project (held number state)) → Serves keep rules request old new Unknown
   withdraw_unknown new k permit reads is =
       let unowned = λ (s : keep.is_sound new). unowned_reply caller project number (held number state) (is s) in
       replies_serves keep rules request old new Unknown reads tt
@@ -152,63 +147,63 @@ module _ {K : Type 0} (keep : Ghosts K) (rules : List Rule) (caller : Caller) (p
       permitted_reply ruling k (IsWithdrawal state caller project number) (Withdrawn number) permit
       (sym (own_reply caller project number (held number state) owned.kept owned.holds owned.own))
 
-  -- it is marked already
+  -- it is withdrawn already
   pub withdraw_again : (new : K) (k : ℕ) → ruling ≡ Permit k → OnlyReads keep old new false
-      → (keep.is_sound new → Some true ≡ mark_of caller project (held number state)) → Serves keep rules request old new (Withdrawn number)
+      → (keep.is_sound new → Some true ≡ withdrawn_of caller project (held number state)) → Serves keep rules request old new (Withdrawn number)
   withdraw_again new k permit reads is =
       let own = λ (s : keep.is_sound new). owned caller project (held number state) true (is s) in
       replies_serves keep rules request old new (Withdrawn number) reads tt (λ s. ∣ own_answer k true permit (own s) ∣₁)
-      (λ s. inl (((k, permit), ((own s).kept, (own s).holds, (own s).own)), still_marked caller project number state (own s)))
+      (λ s. inl (((k, permit), ((own s).kept, (own s).holds, (own s).own)), still_withdrawn caller project number state (own s)))
       (withdraw_asks terms state caller project number day k permit).0
 
-  marking : {X : Type 0} (mid new : K) (k : ℕ) (result : Result X KeepError) → ruling ≡ Permit k → OnlyReads keep old mid false
-      → (keep.is_sound mid → Some false ≡ mark_of caller project (held number state))
-      → Makes keep (marked number (keep.deposits mid)) mid new result
-      → IsMaking keep rules request old mid new (marked number (keep.deposits mid)) result
-  marking mid new k result permit reads is marks = record {
+  withdrawing : {X : Type 0} (mid new : K) (k : ℕ) (result : Result X KeepError) → ruling ≡ Permit k → OnlyReads keep old mid false
+      → (keep.is_sound mid → Some false ≡ withdrawn_of caller project (held number state))
+      → Makes keep (with_withdrawn number (keep.deposits mid)) mid new result
+      → IsMaking keep rules request old mid new (with_withdrawn number (keep.deposits mid)) result
+  withdrawing mid new k result permit reads is makes = record {
     reads = reads;
-    makes = marks;
+    makes = makes;
     change = λ s.
         let own = owned caller project (held number state) false (is s) in
-        (((k, permit), (own.kept, own.holds, own.own)), ap (marked number) (reads.same s refl));
+        (((k, permit), (own.kept, own.holds, own.own)), ap (with_withdrawn number) (reads.same s refl));
     asks = withdraw_asks terms state caller project number day k permit;
   }
 
-  -- it is not marked yet, and the store marks it
-  pub withdraw_marks : {X : Type 0} (mid new : K) (k : ℕ) (x : X) → ruling ≡ Permit k → OnlyReads keep old mid false
-      → (keep.is_sound mid → Some false ≡ mark_of caller project (held number state))
-      → Makes keep (marked number (keep.deposits mid)) mid new (Ok x) → Serves keep rules request old new (Withdrawn number)
-  withdraw_marks mid new k x permit reads is marks =
-      made_serves keep rules request old mid new (marked number (keep.deposits mid)) x (Withdrawn number)
-      (marking mid new k (Ok x) permit reads is marks) tt
-      (λ s. own_answer k false permit (owned caller project (held number state) false (is (marks.sound s))))
+  -- it is not withdrawn yet, and the store withdraws it
+  pub withdraw_made : {X : Type 0} (mid new : K) (k : ℕ) (x : X) → ruling ≡ Permit k → OnlyReads keep old mid false
+      → (keep.is_sound mid → Some false ≡ withdrawn_of caller project (held number state))
+      → Makes keep (with_withdrawn number (keep.deposits mid)) mid new (Ok x) → Serves keep rules request old new (Withdrawn number)
+  withdraw_made mid new k x permit reads is makes =
+      made_serves keep rules request old mid new (with_withdrawn number (keep.deposits mid)) x (Withdrawn number)
+      (withdrawing mid new k (Ok x) permit reads is makes) tt
+      (λ s. own_answer k false permit (owned caller project (held number state) false (is (makes.sound s))))
 
-  -- the store refuses to mark it
-  pub withdraw_unmarked : {X : Type 0} (mid new : K) (k : ℕ) (e : KeepError) → ruling ≡ Permit k → OnlyReads keep old mid false
-      → (keep.is_sound mid → Some false ≡ mark_of caller project (held number state))
-      → Makes {X = X} keep (marked number (keep.deposits mid)) mid new (Err e) → e ≢ errors.Full → Serves keep rules request old new (answer_of e)
-  withdraw_unmarked {X = X} mid new k e permit reads is marks named =
-      unmade_serves keep rules request old {X = X} mid new (marked number (keep.deposits mid)) e
-      (marking mid new k (Err e) permit reads is marks) (λ s. named)
+  -- the store refuses to withdraw it
+  pub withdraw_refused : {X : Type 0} (mid new : K) (k : ℕ) (e : KeepError) → ruling ≡ Permit k → OnlyReads keep old mid false
+      → (keep.is_sound mid → Some false ≡ withdrawn_of caller project (held number state))
+      → Makes {X = X} keep (with_withdrawn number (keep.deposits mid)) mid new (Err e) → e ≢ errors.Full → Serves keep rules request old new (answer_of e)
+  withdraw_refused {X = X} mid new k e permit reads is makes named =
+      unmade_serves keep rules request old {X = X} mid new (with_withdrawn number (keep.deposits mid)) e
+      (withdrawing mid new k (Err e) permit reads is makes) (λ s. named)
 
--- ---- what the store requires before it marks
+-- ---- what the store requires before it withdraws
 
 module _ {K : Type 0} (keep : Ghosts K) (caller : Caller) (project : List ℕ) (number : ℕ) (old mid : K) where
   -- the number is one of the list
   pub own_within : (withdrawn : Bool) → OnlyReads keep old mid false
-      → (keep.is_sound mid → Some withdrawn ≡ mark_of caller project (held number (keep.deposits old)))
+      → (keep.is_sound mid → Some withdrawn ≡ withdrawn_of caller project (held number (keep.deposits old)))
       → keep.is_sound mid → (0 < number) × (number ≤ length (keep.deposits mid))
   own_within withdrawn reads is s =
       let own = owned caller project (held number (keep.deposits old)) withdrawn (is s) in
       subst (λ (l : List Deposit). (0 < number) × (number ≤ length l)) (sym (reads.same s refl))
       (held_within (keep.deposits old) number own.kept own.holds)
 
-  -- the deposit is not marked
-  pub own_unmarked : OnlyReads keep old mid false
-      → (keep.is_sound mid → Some false ≡ mark_of caller project (held number (keep.deposits old))) → keep.is_sound mid
+  -- the deposit is not withdrawn
+  pub own_not_withdrawn : OnlyReads keep old mid false
+      → (keep.is_sound mid → Some false ≡ withdrawn_of caller project (held number (keep.deposits old))) → keep.is_sound mid
       → (d : Deposit) → slice_get (keep.deposits mid) (number - 1) ≡ Some d → d.withdrawn ≡ false
-  own_unmarked reads is s d at =
+  own_not_withdrawn reads is s d at =
       let own = owned caller project (held number (keep.deposits old)) false (is s) in
       let place = held_place (keep.deposits old) number own.kept own.holds in
       let same : Some own.kept ≡ Some d = sym place ∙ ap (λ (l : List Deposit). slice_get l (number - 1)) (sym (reads.same s refl)) ∙ at in
-      ap (λ (k : Deposit). k.withdrawn) (sym (same_Some own.kept d same)) ∙ own.mark
+      ap (λ (k : Deposit). k.withdrawn) (sym (same_Some own.kept d same)) ∙ own.same

@@ -32,7 +32,7 @@ abbrev pub failing : List Asked → List Answer → Option Asked
 failing requests answers = option_map (λ p. p.0) (find (λ p. is_failed p.1) (zip requests answers))
 
 -- a deposit that was answered by a receipt is held under its number, withdrawn or not, with the embargo that the
--- receipt shows; one that was answered as withdrawn is held with its mark
+-- receipt shows; one that was answered as withdrawn is held and withdrawn
 abbrev pub IsHeldIn : List Deposit → Asked → Answer → Type 0
 IsHeldIn list (deposit caller project embargo bytes day) (Receipt n until) =
     held n (sents list) ≡ Some (asked_deposit caller project until bytes)
@@ -45,8 +45,8 @@ IsHeldIn list _ _ = ⊤
 pub record Runs {K : Type 0} (keep : Ghosts K) (rules : List Rule) (old new : K) (requests : List Asked)
     (answers : List Answer) : Type 0 where
   pub last : List Deposit
-  pub answered : AreAnswers (terms_at keep rules old) (keep.deposits old) requests answers last
-  pub kept : failing requests answers ≡ None → keep.deposits new ≡ last
+  pub are_answers : AreAnswers (terms_at keep rules old) (keep.deposits old) requests answers last
+  pub final : failing requests answers ≡ None → keep.deposits new ≡ last
   -- a crash leaves the bytes of the dictionary, and no list but `last`, or, where a request failed, one to which that
   -- request changes `last`
   pub left : (bytes : List ℕ) (list : List Deposit) → keep.may_leave new bytes list
@@ -62,8 +62,8 @@ RunsIfSound keep old requests answers new = keep.is_sound new.keep → old.faile
     → ∥ Runs keep old.policy old.keep new.keep requests answers ∥₁
 
 -- If the desk had not failed and its store is sound at the end: every list that a crash may leave holds each deposit
--- that was answered by a receipt, under its number, with the embargo that the receipt shows, and has the mark of each
--- that was answered as withdrawn.
+-- that was answered by a receipt, under its number, with the embargo that the receipt shows, and each that
+-- was answered as withdrawn is withdrawn.
 abbrev pub ReceiptsSurviveIfSound : {K : Type 0} (keep : Ghosts K) → Desk K keep → List Asked → List Answer
     → Desk K keep → Type 0
 ReceiptsSurviveIfSound keep old requests answers new = keep.is_sound new.keep → old.failed ≡ false

@@ -25,7 +25,6 @@ use reg_store::{Keep, KeepError};
 use std::alloc::Global;
 
 /// Answers a request, if the policy permits it.
-#[tactic(none)]
 pub(crate) fn serve<K: Keep>(
     alloc: Global,
     keep: &mut K,
@@ -80,7 +79,6 @@ fn subject_of<'x>(request: &Request<'x>) -> Subject<'x>
 }
 
 /// Answers a request that the policy permits.
-#[tactic(none)]
 fn serve_permitted<K: Keep>(
     alloc: Global,
     keep: &mut K,

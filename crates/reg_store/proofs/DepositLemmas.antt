@@ -1,10 +1,10 @@
--- Deposits and their marks, place by place.
+-- Deposits, what was sent of them and whether they are withdrawn, place by place.
 use Rattle.std.proofs.Common.{◌≡◌, ℕ, zero, suc, ◌-◌, ◌<◌, List, [], ◌∷◌, Bool, true, length, Option, Some, None, slice_get, refl, sym, ap, ◌∙◌, arith}
 use Rattle.std.specs.Prelude.{option_map}
 use Rattle.std.proofs.lemmas.List.{length-map}
 use Rattle.std.proofs.lemmas.Option.{slice_get-map}
 use Rattle.reg_store.specs.Sent.{Sent}
-use Rattle.reg_store.specs.Deposit.{Deposit, sents, mark, marked}
+use Rattle.reg_store.specs.Deposit.{Deposit, sents, with_withdrawn}
 
 -- ---- what was sent
 
@@ -23,29 +23,18 @@ some_sent (Some d) sent h = (d, refl, cc)
 pub deposit_at : (list : List Deposit) (k : ℕ) (sent : Sent) → slice_get (sents list) k ≡ Some sent → (d : Deposit) × (slice_get list k ≡ Some d) × (d.sent ≡ sent)
 deposit_at list k sent at = some_sent (slice_get list k) sent (sym (slice_get-map (λ (x : Deposit). x.sent) list k) ∙ at)
 
--- ---- marks
+-- ---- withdrawals
 
-pub length_marked : (n : ℕ) (list : List Deposit) → length (marked n list) ≡ length list
-length_marked n [] = refl
-length_marked zero (d ∷ more) = refl
-length_marked (suc zero) (d ∷ more) = refl
-length_marked (suc (suc n)) (d ∷ more) = ap suc (length_marked (suc n) more)
-
-marked_place : (list : List Deposit) (k : ℕ) (d : Deposit) → slice_get list k ≡ Some d → slice_get (marked (suc k) list) k ≡ Some (mark d)
-marked_place [] k d at = absurd cc
-marked_place (x ∷ more) zero d at = let same : x ≡ d = cc in ap (λ (y : Deposit). Some (mark y)) same
-marked_place (x ∷ more) (suc k) d at = marked_place more k d at
-
-mark_again : (d : Deposit) → d.withdrawn ≡ true → mark d ≡ d
-mark_again d h = let make : Bool → Deposit = λ b. record { sent = d.sent; withdrawn = b } in ap make (sym h)
-
-again_place : (list : List Deposit) (k : ℕ) (d : Deposit) → slice_get list k ≡ Some d → d.withdrawn ≡ true → marked (suc k) list ≡ list
+again_place : (list : List Deposit) (k : ℕ) (d : Deposit) → slice_get list k ≡ Some d → d.withdrawn ≡ true → with_withdrawn (suc k) list ≡ list
 again_place [] k d at h = refl
-again_place (x ∷ more) zero d at h = let same : x ≡ d = cc in ap (λ (y : Deposit). y ∷ more) (mark_again x (ap (λ (y : Deposit). y.withdrawn) same ∙ h))
+again_place (x ∷ more) zero d at h =
+    let same : x ≡ d = cc in
+    let make : Bool → List Deposit = λ b. record { sent = x.sent; withdrawn = b } ∷ more in
+    ap make (sym (ap (λ (y : Deposit). y.withdrawn) same ∙ h))
 again_place (x ∷ more) (suc k) d at h = ap (λ (rest : List Deposit). x ∷ rest) (again_place more k d at h)
 
--- a list that has the mark already is left as it is
-pub marked_again : (list : List Deposit) (n : ℕ) (d : Deposit) → 0 < n → slice_get list (n - 1) ≡ Some d → d.withdrawn ≡ true → marked n list ≡ list
-marked_again list n d low at h =
+-- a list whose deposit is withdrawn already is left as it is
+pub withdrawn_again : (list : List Deposit) (n : ℕ) (d : Deposit) → 0 < n → slice_get list (n - 1) ≡ Some d → d.withdrawn ≡ true → with_withdrawn n list ≡ list
+withdrawn_again list n d low at h =
     let number : suc (n - 1) ≡ n = omega (arith, low) in
-    ap (λ (m : ℕ). marked m list) (sym number) ∙ again_place list (n - 1) d at h
+    ap (λ (m : ℕ). with_withdrawn m list) (sym number) ∙ again_place list (n - 1) d at h

@@ -10,21 +10,16 @@ use Rattle.std.proofs.lemmas.List.Elements.{All-append}
 use Rattle.std.proofs.lemmas.Option.{get_or_from_slice_get, slice_get-map, slice_get_read}
 use Rattle.ags_rows.specs.declared.TheConstants.{LIMIT, READABLE}
 use Rattle.ags_rows.specs.declared.finding.Finding.{Finding}
-use Rattle.ags_rows.specs.declared.rows.Group.{Group}
 use Rattle.ags_dict.specs.Entries.{Entries}
-use Rattle.ags_links.specs.Walks.{StepGraph}
 use Rattle.ags_check.specs.Findings.{CheckedFile, Findings, IsClean}
 use Rattle.ags_check.proofs.Lemmas.{one_list, one_clean_file}
 use Rattle.reg_store.specs.declared.keep.Kept.{Kept}
-use Rattle.reg_store.specs.declared.keep.KeptRow.{KeptRow}
-use Rattle.reg_store.specs.declared.keep.HeadedRow.{HeadedRow}
-use Rattle.reg_store.specs.Project.{AreProjectRows, headed_rows}
-use Rattle.reg_store.specs.Keep.{deposit_of, sent_of}
+use Rattle.reg_store.specs.Keep.{OfDeposit, deposit_of, sent_of}
 use Rattle.reg_store.specs.Sent.{Sent, numbers_from}
-use Rattle.reg_store.specs.Deposit.{Deposit, sents, mark, marked, sents_marked}
-use Rattle.reg_store.specs.Fit.{IsFit, IsFileOf, kept_rows}
+use Rattle.reg_store.specs.Deposit.{Deposit, sents, as_withdrawn, with_withdrawn, sents_with_withdrawn}
+use Rattle.reg_store.specs.Fit.{IsFit, IsFileOf}
 use Rattle.reg_store.specs.PlainLaws.{fit_of}
-use Rattle.reg_store.proofs.ProjectLemmas.{headed_count}
+use Rattle.reg_store.specs.Reading.{OfFile}
 
 -- ---- a fit deposit
 
@@ -68,37 +63,40 @@ fit_push dictionary old kept true one all =
     (All-append (IsFit dictionary) (map sent_of old) (sent_of kept ∷ []) (subst (All (IsFit dictionary)) (kept_sents old) h) (one_fit dictionary (sent_of kept) one)))
 
 -- the deposit at a place
-pub kept_is_fit : (dictionary : Entries) (kept : List Kept) (k : ℕ) (one : Kept) → ∥ All (IsFit dictionary) (sents (map deposit_of kept)) ∥₁ → k < length (map deposit_of kept) → one ≡ get_or kept k one → IsFit dictionary (sent_of one)
-kept_is_fit dictionary kept k one all low is =
-    subst (IsFit dictionary) (get_or-map sent_of kept k one ∙ ap sent_of (sym is))
-    (fit_of dictionary (map sent_of kept) (subst (λ (list : List Sent). ∥ All (IsFit dictionary) list ∥₁) (kept_sents kept) all) k (sent_of one) (omega (arith, low, length-map kept deposit_of, length-map kept sent_of)))
+pub kept_is_fit : (dictionary : Entries) (kept : List Kept) (n : ℕ) (one : Kept) → ∥ All (IsFit dictionary) (sents (map deposit_of kept)) ∥₁ → (0 < n) × (n ≤ length (map deposit_of kept)) → one ≡ get_or kept (n - 1) one → IsFit dictionary (sent_of one)
+kept_is_fit dictionary kept n one all number is =
+    subst (IsFit dictionary) (get_or-map sent_of kept (n - 1) one ∙ ap sent_of (sym is))
+    (fit_of dictionary (map sent_of kept) (subst (λ (list : List Sent). ∥ All (IsFit dictionary) list ∥₁) (kept_sents kept) all) (n - 1) (sent_of one) (omega (arith, number.0, number.1, length-map kept deposit_of, length-map kept sent_of)))
 
 -- what is seen of it there
 pub kept_is : {X : Type 0} (view : Kept → X) (kept : List Kept) (k : ℕ) (one : Kept) (d : X) → one ≡ get_or kept k one → slice_get (map view kept) k ≡ Some d → d ≡ view one
 kept_is view kept k one d is there = sym (get_or_from_slice_get (map view kept) k d (view one) there) ∙ get_or-map view kept k one ∙ ap view (sym is)
 
-pub kept_is_sent : (kept : List Kept) (k : ℕ) (one : Kept) (d : Sent) → one ≡ get_or kept k one → slice_get (sents (map deposit_of kept)) k ≡ Some d → d ≡ sent_of one
-kept_is_sent kept k one d is there = kept_is sent_of kept k one d is (ap (λ (list : List Sent). slice_get list k) (sym (kept_sents kept)) ∙ there)
+-- what holds of the file of what is kept there holds of the file of deposit n
+pub of_kept : (dictionary : Entries) (kept : List Kept) (n : ℕ) (one : Kept) (Holds : CheckedFile → Type 0) → one ≡ get_or kept (n - 1) one → OfFile dictionary (sent_of one) Holds → OfDeposit dictionary (sents (map deposit_of kept)) n Holds
+of_kept dictionary kept n one Holds is holds = λ d file there its.
+    let same : d ≡ sent_of one = kept_is sent_of kept (n - 1) one d is (ap (λ (list : List Sent). slice_get list (n - 1)) (sym (kept_sents kept)) ∙ there) in
+    holds file (subst (λ (sent : Sent). IsFileOf dictionary sent file) same its)
 
 -- the list has the deposit at its place
 pub kept_at : (kept : List Kept) (k : ℕ) (one : Kept) → k < length kept → one ≡ get_or kept k one → slice_get (map deposit_of kept) k ≡ Some (deposit_of one)
 kept_at kept k one low is = slice_get-map deposit_of kept k ∙ ap (option_map deposit_of) (slice_get_read kept (length kept) k one refl low is)
 
-marked_place : (kept : List Kept) (k : ℕ) (one new : Kept) → one ≡ get_or kept k one → deposit_of new ≡ mark (deposit_of one) → map deposit_of (slice_set kept k new) ≡ marked (suc k) (map deposit_of kept)
-marked_place [] k one new is said = refl
-marked_place (x ∷ kept) zero one new is said = ap (λ (d : Deposit). d ∷ map deposit_of kept) (said ∙ ap (λ (y : Kept). mark (deposit_of y)) is)
-marked_place (x ∷ kept) (suc k) one new is said = ap (λ (rest : List Deposit). deposit_of x ∷ rest) (marked_place kept k one new is said)
+withdrawn_place : (kept : List Kept) (k : ℕ) (one new : Kept) → one ≡ get_or kept k one → deposit_of new ≡ as_withdrawn (deposit_of one) → map deposit_of (slice_set kept k new) ≡ with_withdrawn (suc k) (map deposit_of kept)
+withdrawn_place [] k one new is said = refl
+withdrawn_place (x ∷ kept) zero one new is said = ap (λ (d : Deposit). d ∷ map deposit_of kept) (said ∙ ap (λ (y : Kept). as_withdrawn (deposit_of y)) is)
+withdrawn_place (x ∷ kept) (suc k) one new is said = ap (λ (rest : List Deposit). deposit_of x ∷ rest) (withdrawn_place kept k one new is said)
 
--- one of them is marked
-pub kept_marked : (kept : List Kept) (n : ℕ) (one new : Kept) → 0 < n → one ≡ get_or kept (n - 1) one → deposit_of new ≡ mark (deposit_of one) → map deposit_of (slice_set kept (n - 1) new) ≡ marked n (map deposit_of kept)
-kept_marked kept n one new low is said =
+-- one of them is withdrawn
+pub kept_withdrawn : (kept : List Kept) (n : ℕ) (one new : Kept) → 0 < n → one ≡ get_or kept (n - 1) one → deposit_of new ≡ as_withdrawn (deposit_of one) → map deposit_of (slice_set kept (n - 1) new) ≡ with_withdrawn n (map deposit_of kept)
+kept_withdrawn kept n one new low is said =
     let number : suc (n - 1) ≡ n = omega (arith, low) in
-    marked_place kept (n - 1) one new is said ∙ ap (λ (m : ℕ). marked m (map deposit_of kept)) number
+    withdrawn_place kept (n - 1) one new is said ∙ ap (λ (m : ℕ). with_withdrawn m (map deposit_of kept)) number
 
--- a mark leaves them fit
-pub marked_fit : (dictionary : Entries) (old new : List Kept) (n : ℕ) → map deposit_of new ≡ marked n (map deposit_of old) → ∥ All (IsFit dictionary) (sents (map deposit_of old)) ∥₁ → ∥ All (IsFit dictionary) (sents (map deposit_of new)) ∥₁
-marked_fit dictionary old new n is all =
-    subst (λ (list : List Sent). ∥ All (IsFit dictionary) list ∥₁) (sym (ap sents is ∙ sents_marked n (map deposit_of old))) all
+-- a withdrawal leaves them fit
+pub withdrawn_fit : (dictionary : Entries) (old new : List Kept) (n : ℕ) → map deposit_of new ≡ with_withdrawn n (map deposit_of old) → ∥ All (IsFit dictionary) (sents (map deposit_of old)) ∥₁ → ∥ All (IsFit dictionary) (sents (map deposit_of new)) ∥₁
+withdrawn_fit dictionary old new n is all =
+    subst (λ (list : List Sent). ∥ All (IsFit dictionary) list ∥₁) (sym (ap sents is ∙ sents_with_withdrawn n (map deposit_of old))) all
 
 -- ---- the numbers of a project's deposits
 
@@ -120,26 +118,8 @@ numbers_more project kept i n one old new all low is told before =
 one_file : (dictionary : Entries) (d : Sent) (a b : CheckedFile) → IsFileOf dictionary d a → IsFileOf dictionary d b → a ≡ b
 one_file dictionary d a b x y = one_clean_file a b x.clean y.clean (x.given ∙ sym y.given) (x.bytes ∙ sym y.bytes)
 
-pub rows_are : {X E : Type 0} (items : X → List KeptRow) (dictionary : Entries) (d : Sent) (checked : CheckedFile) (groups : List Group) (r : Result X E) → IsFileOf dictionary d checked → groups ≡ checked.groups
-    → IfOk r (λ rows. items rows ≡ kept_rows groups) → IfOk r (λ rows. (file : CheckedFile) → IsFileOf dictionary d file → items rows ≡ kept_rows file.groups)
-rows_are items dictionary d checked groups (Ok rows) its of read = λ file other. read ∙ ap kept_rows (of ∙ ap (λ (f : CheckedFile). f.groups) (one_file dictionary d checked file its other))
-rows_are items dictionary d checked groups (Err e) its of read = tt
-
-pub graph_is : {E : Type 0} (dictionary : Entries) (d : Sent) (checked : CheckedFile) (graph : StepGraph) (r : Result StepGraph E) → IsFileOf dictionary d checked → graph ≡ checked.graph
-    → IfOk r (λ copied. copied ≡ graph) → IfOk r (λ copied. (file : CheckedFile) → IsFileOf dictionary d file → copied ≡ file.graph)
-graph_is dictionary d checked graph (Ok copied) its of same = λ file other. same ∙ of ∙ ap (λ (f : CheckedFile). f.graph) (one_file dictionary d checked file its other)
-graph_is dictionary d checked graph (Err e) its of same = tt
-
-pub project_rows_are : {X E : Type 0} (items : X → List HeadedRow) (dictionary : Entries) (d : Sent) (checked : CheckedFile) (groups : List Group) (rows read : List KeptRow) (graph : StepGraph) (r : Result X E) → IsFileOf dictionary d checked
-    → groups ≡ checked.groups → rows ≡ kept_rows groups → read ≡ rows → graph ≡ checked.graph
-    → IfOk r (λ found. length (headed_rows [] [] read) ≡ graph.rows → AreProjectRows read graph.steps (items found))
-    → IfOk r (λ found. (file : CheckedFile) → IsFileOf dictionary d file → AreProjectRows (kept_rows file.groups) file.graph.steps (items found))
-project_rows_are items dictionary d checked groups rows read graph (Ok found) its of kept same of_graph are = λ file other.
-    let one = one_file dictionary d checked file its other in
-    let its_rows : read ≡ kept_rows file.groups = same ∙ kept ∙ ap kept_rows (of ∙ ap (λ (f : CheckedFile). f.groups) one) in
-    let its_graph : graph ≡ file.graph = of_graph ∙ ap (λ (f : CheckedFile). f.graph) one in
-    let all : length (headed_rows [] [] (kept_rows file.groups)) ≡ file.graph.rows → AreProjectRows (kept_rows file.groups) file.graph.steps (items found) =
-    subst (λ (g : StepGraph). length (headed_rows [] [] (kept_rows file.groups)) ≡ g.rows → AreProjectRows (kept_rows file.groups) g.steps (items found)) its_graph
-    (subst (λ (l : List KeptRow). length (headed_rows [] [] l) ≡ graph.rows → AreProjectRows l graph.steps (items found)) its_rows are) in
-    all (headed_count file other.clean)
-project_rows_are items dictionary d checked groups rows read graph (Err e) its of kept same of_graph are = tt
+-- what holds of the file that was checked holds of the deposit's file
+pub of_checked : {X E : Type 0} (dictionary : Entries) (d : Sent) (checked : CheckedFile) (Holds : X → CheckedFile → Type 0) (r : Result X E) → IsFileOf dictionary d checked
+    → IfOk r (λ x. Holds x checked) → IfOk r (λ x. OfFile dictionary d (Holds x))
+of_checked dictionary d checked Holds (Ok x) its holds = λ file other. subst (Holds x) (one_file dictionary d checked file its other) holds
+of_checked dictionary d checked Holds (Err e) its holds = tt

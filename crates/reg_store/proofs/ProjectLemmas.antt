@@ -4,7 +4,7 @@ use Rattle.std.specs.Prelude.{slice_get}
 use Rattle.std.specs.List.{AllByRecursion, items_where_true}
 use Rattle.std.specs.Str.{bytes_eq}
 use Rattle.std.proofs.lemmas.List.{drop_all}
-use Rattle.std.proofs.lemmas.List.Elements.{All-from_recursion}
+use Rattle.std.proofs.lemmas.List.Elements.{All-append, All-from_recursion, All-nil}
 use Rattle.ags_rows.specs.Contents.{Contents, contents_of, group_contents}
 use Rattle.ags_rows.specs.declared.rows.Group.{Group}
 use Rattle.ags_rows.specs.declared.rows.Descriptor.TheVariants as kinds
@@ -121,15 +121,11 @@ data_kinds : (name : List ℕ) (rows : List (List (List ℕ))) → AllByRecursio
 data_kinds name [] = tt
 data_kinds name (fields ∷ rows) = (omega arith, data_kinds name rows)
 
-both : (xs ys : List KeptRow) → AllByRecursion HasKind xs → AllByRecursion HasKind ys → AllByRecursion HasKind (xs ++ ys)
-both [] ys a b = b
-both (x ∷ xs) ys a b = (a.0, both xs ys a.1 b)
-
-kinds_by : (groups : List Group) → AllByRecursion HasKind (kept_rows groups)
-kinds_by [] = tt
-kinds_by (g ∷ groups) =
-    (omega arith, (omega arith, (omega arith, (omega arith, both (map (kept_row g.name kinds.Data) (group_contents g).rows) (kept_rows groups) (data_kinds g.name (group_contents g).rows) (kinds_by groups)))))
-
 -- each row that is kept has one of the five kinds
 pub kept_kinds : (groups : List Group) → All HasKind (kept_rows groups)
-kept_kinds groups = All-from_recursion HasKind (kept_rows groups) (kinds_by groups)
+kept_kinds [] = All-nil HasKind
+kept_kinds (g ∷ groups) =
+    let file = group_rows (group_contents g) in
+    let own = data_kinds g.name (group_contents g).rows in
+    All-append HasKind file (kept_rows groups)
+    (All-from_recursion HasKind file (omega arith, (omega arith, (omega arith, (omega arith, own))))) (kept_kinds groups)

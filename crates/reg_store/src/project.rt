@@ -27,7 +27,7 @@ pub fn project_rows_in(
     };
     let from = one_mark(alloc, graph.rows(), number)?;
     let (marks, _turns) = reached(alloc, graph, &from)?;
-    marked_rows(alloc, rows, &marks)
+    rows_at_marks(alloc, rows, &marks)
 }
 
 /// The row of PROJ among the rows of a file: its first DATA row under the GROUP row of PROJ, which is the only one where
@@ -45,7 +45,7 @@ fn project_in(alloc: Global, rows: &[KeptRow]) -> Result<Option<(usize, HeadedRo
             headings = row.line.as_slice();
         } else if row.kind == 4 {
             if is_project_group(group) {
-                let found = headed_row(alloc, group, headings, row.line.as_slice())?;
+                let found = copied_row(alloc, group, headings, row.line.as_slice())?;
                 return Ok(Some((number, found)));
             }
             number += 1;
@@ -62,7 +62,7 @@ fn is_project_group(line: &[u8]) -> bool
 }
 
 /// A row of copies.
-fn headed_row(
+fn copied_row(
     alloc: Global,
     group: &[u8],
     headings: &[u8],
@@ -90,7 +90,7 @@ fn one_mark(alloc: Global, count: u32, number: usize) -> Result<Vec<bool>, Alloc
 }
 
 /// The marked rows. Rows of one group share their header rows.
-fn marked_rows(
+fn rows_at_marks(
     alloc: Global,
     rows: &[KeptRow],
     marks: &[bool],
@@ -108,7 +108,7 @@ fn marked_rows(
             headings = SharedBytes::copied(alloc, row.line.as_slice())?;
         } else if row.kind == 4 {
             if data < marks.len() && marks[data] {
-                push_row(alloc, &mut found, &group, &headings, row.line.as_slice())?;
+                push_headed(alloc, &mut found, &group, &headings, row.line.as_slice())?;
             }
             data += 1;
         }
@@ -117,7 +117,7 @@ fn marked_rows(
 }
 
 /// Appends a row, which shares the header rows.
-fn push_row(
+fn push_headed(
     alloc: Global,
     found: &mut Vec<HeadedRow>,
     group: &SharedBytes,

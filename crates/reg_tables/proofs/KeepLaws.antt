@@ -13,7 +13,7 @@ use Rattle.sqlite.specs.State.{State, Survives, HasCleanDisk}
 use Rattle.ags_dict.specs.Entries.{Entries}
 use Rattle.ags_check.specs.Findings.{CheckedFile}
 use Rattle.reg_store.specs.Sent.{Sent}
-use Rattle.reg_store.specs.Deposit.{Deposit, marked, sents, unmarked}
+use Rattle.reg_store.specs.Deposit.{Deposit, with_withdrawn, sents, new_deposit}
 use Rattle.reg_tables.specs.Tables.{register_schema}
 use Rattle.reg_tables.specs.Private.Inserts.{AddsFile, AddsMark}
 use Rattle.reg_tables.proofs.MethodsLaws.{slice_get_in}
@@ -160,7 +160,7 @@ whole_next {old} {new} {dictionary} {count} Change next h becomes survives clean
 pub put_next : {old : State} {dictionary : Entries} {count : ℕ} (d : Sent) (file : CheckedFile) → count < 999999
     → IsReady dictionary (sents (deposits_in old.committed.trees)) d file
     → BecomesNext old dictionary count (AddsFile (count + 1) d (kept_rows file.groups) file.graph.steps)
-    (deposits_in old.committed.trees ++ unmarked d ∷ [])
+    (deposits_in old.committed.trees ++ new_deposit d ∷ [])
 put_next {old} {dictionary} {count} d file low ready k db put sound = register_push dictionary old.now db
     (deposits_in old.committed.trees) d file count k.register k.counted low put sound ready
 
@@ -170,7 +170,7 @@ IsUnmarked n list = (d : Deposit) → slice_get list (n - 1) ≡ Some d → d.wi
 
 pub mark_next : {old : State} {dictionary : Entries} {count : ℕ} (n : ℕ) → 0 < n
     → n ≤ length (deposits_in old.committed.trees) → IsUnmarked n (deposits_in old.committed.trees)
-    → BecomesNext old dictionary count (AddsMark n) (marked n (deposits_in old.committed.trees))
+    → BecomesNext old dictionary count (AddsMark n) (with_withdrawn n (deposits_in old.committed.trees))
 mark_next {old} {dictionary} {count} n low high bare k db put sound =
     let list = deposits_in old.committed.trees in
     let d = slice_get_in list (n - 1) (omega (arith, low, high)) in

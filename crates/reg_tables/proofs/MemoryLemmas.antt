@@ -11,7 +11,7 @@ use Rattle.sqlite.specs.State.{State, HasCleanDisk}
 use Rattle.ags_dict.specs.Entries.{Entries}
 use Rattle.reg_store.specs.declared.keep.KeptHead.{KeptHead}
 use Rattle.reg_store.specs.Sent.{Sent, numbers_from}
-use Rattle.reg_store.specs.Deposit.{Deposit, marked, sents, sents_marked, unmarked}
+use Rattle.reg_store.specs.Deposit.{Deposit, with_withdrawn, sents, sents_with_withdrawn, new_deposit}
 use Rattle.reg_tables.specs.declared.memory.Coming.{Coming}
 use Rattle.reg_tables.specs.declared.memory.Known.{Known}
 use Rattle.reg_tables.specs.declared.memory.Memory.{Memory}
@@ -110,17 +110,17 @@ numbers_held n project dictionary list known are = numbers_zipped n project dict
 -- ---- one deposit more
 
 pub agrees_push : (old new : Memory) (coming : Coming) (dictionary : Entries) (list : List Deposit) (d : Sent) → new.known.items ≡ old.known.items ++ coming.known ∷ [] → PutsNumbers old.digests new.digests coming.digest coming.numbers.items
-    → IsComing old d coming → KnowsFile dictionary d coming.known.file → Agrees old dictionary list → Agrees new dictionary (list ++ unmarked d ∷ [])
+    → IsComing old d coming → KnowsFile dictionary d coming.known.file → Agrees old dictionary list → Agrees new dictionary (list ++ new_deposit d ∷ [])
 agrees_push old new coming dictionary list d known puts its read agrees =
     let number : length old.known.items + 1 ≡ length list + 1 = ap (λ n. n + 1) agrees.known.long in
     let numbers = its.numbers ∙ ap (λ n. numbers_under old.digests (own_digest d) ++ n ∷ []) number ∙ ap (λ (x : List ℕ). numbers_under old.digests x ++ (length list + 1) ∷ []) (sym its.digest) in
     let adds : AddsNumber old.digests new.digests coming.digest (length list + 1) = subst (PutsNumbers old.digests new.digests coming.digest) numbers puts in
-    let next = list ++ unmarked d ∷ [] in
+    let next = list ++ new_deposit d ∷ [] in
     record {
       known = subst (AreKnown dictionary next) (sym known)
-          (unzipped dictionary next _ (zip_push (IsKnown dictionary) list old.known.items (unmarked d) coming.known (zipped dictionary list old.known.items agrees.known) (record { head = its.head; file = read })));
+          (unzipped dictionary next _ (zip_push (IsKnown dictionary) list old.known.items (new_deposit d) coming.known (zipped dictionary list old.known.items agrees.known) (record { head = its.head; file = read })));
       digests = digested_push old.digests new.digests coming.digest (sents list) (sents next) d (length list + 1) agrees.digests adds its.digest (ap (λ n. n + 1) (sym (long_sents list))) (sents_push list d);
-      below = subst (λ n. AreBelow new.digests (n + 1)) (sym (length_push list (unmarked d))) (below_more old.digests new.digests coming.digest (length list + 1) (omega arith) adds agrees.below);
+      below = subst (λ n. AreBelow new.digests (n + 1)) (sym (length_push list (new_deposit d))) (below_more old.digests new.digests coming.digest (length list + 1) (omega arith) adds agrees.below);
     }
 
 -- where room is made, what is known stays
@@ -131,7 +131,7 @@ agrees_same memory digests known dictionary list is same agrees =
 
 -- ---- one mark more
 
-mark_zipped : (dictionary : Entries) (list : List Deposit) (known : List Known) (k : ℕ) (one : Known) → slice_get known k ≡ Some one → AllZip (IsKnown dictionary) list known → AllZip (IsKnown dictionary) (marked (suc k) list) (set known k (marked_as one true))
+mark_zipped : (dictionary : Entries) (list : List Deposit) (known : List Known) (k : ℕ) (one : Known) → slice_get known k ≡ Some one → AllZip (IsKnown dictionary) list known → AllZip (IsKnown dictionary) (with_withdrawn (suc k) list) (set known k (marked_as one true))
 mark_zipped dictionary [] [] k one at all = tt
 mark_zipped dictionary (e ∷ list) (x ∷ known) zero one at all =
     let same : x ≡ one = cc in
@@ -142,18 +142,18 @@ mark_zipped dictionary list known k one at all = absurd all
 
 -- what is known agrees with the list, whose deposit is marked
 pub agrees_mark : (old new : Memory) (dictionary : Entries) (list : List Deposit) (n : ℕ) (one : Known) → 0 < n → slice_get old.known.items (n - 1) ≡ Some one → new.known.items ≡ set old.known.items (n - 1) (marked_as one true)
-    → new.digests ≡ old.digests → Agrees old dictionary list → Agrees new dictionary (marked n list)
+    → new.digests ≡ old.digests → Agrees old dictionary list → Agrees new dictionary (with_withdrawn n list)
 agrees_mark old new dictionary list n one low at known digests agrees =
     let e : suc (n - 1) ≡ n = omega (arith, low) in
     let all = mark_zipped dictionary list old.known.items (n - 1) one at (zipped dictionary list old.known.items agrees.known) in
     record {
-      known = subst₂ (λ (j : ℕ) (items : List Known). AreKnown dictionary (marked j list) items) e (sym known) (unzipped dictionary (marked (suc (n - 1)) list) _ all);
-      digests = subst₂ AreDigested (sym digests) (sym (sents_marked n list)) agrees.digests;
+      known = subst₂ (λ (j : ℕ) (items : List Known). AreKnown dictionary (with_withdrawn j list) items) e (sym known) (unzipped dictionary (with_withdrawn (suc (n - 1)) list) _ all);
+      digests = subst₂ AreDigested (sym digests) (sym (sents_with_withdrawn n list)) agrees.digests;
       below = subst₂ (λ (held : Digests) (m : ℕ). AreBelow held (m + 1)) (sym digests) (sym (length_marked n list)) agrees.below;
     }
 
 -- no deposit has the number
-pub agrees_unmarked : (memory : Memory) (dictionary : Entries) (list : List Deposit) (n : ℕ) → (0 < n → n ≤ length memory.known.items → ⊥) → Agrees memory dictionary list → Agrees memory dictionary (marked n list)
+pub agrees_unmarked : (memory : Memory) (dictionary : Entries) (list : List Deposit) (n : ℕ) → (0 < n → n ≤ length memory.known.items → ⊥) → Agrees memory dictionary list → Agrees memory dictionary (with_withdrawn n list)
 agrees_unmarked memory dictionary list n none agrees = subst (Agrees memory dictionary) (sym (marked_none n list (λ low high. none low (omega (arith, high, agrees.known.long))))) agrees
 
 -- ---- for the calls of the store

@@ -28,7 +28,7 @@ use Rattle.sqlite_rules.specs.Edit.{taken_by}
 use Rattle.sqlite_schema.specs.Rules.{parent_key}
 use Rattle.sqlite_schema.specs.declared.schema.Keys.TheVariants.{Enforced}
 use Rattle.ags_dict.specs.Entries.{Entries}
-use Rattle.reg_store.specs.Deposit.{Deposit, sents, unmarked}
+use Rattle.reg_store.specs.Deposit.{Deposit, sents, new_deposit}
 use Rattle.reg_store.specs.Sent.{Sent}
 use Rattle.reg_store.specs.declared.keep.KeepError.{KeepError}
 use Rattle.reg_store.specs.declared.keep.KeepError.TheVariants as keep
@@ -159,7 +159,7 @@ as_tables db dictionary list is =
 sent_is : (db : Database) (dictionary : Entries) (count : ℕ) (p : HoldsFirst db dictionary count) → sents_in db.trees ≡ p.0
 sent_is db dictionary count p = sents_back db.trees p.0 p.1.deposits
 
-none_marked : (list : List Sent) → marks_of (map unmarked list) ≡ replicate (length list) false
+none_marked : (list : List Sent) → marks_of (map new_deposit list) ≡ replicate (length list) false
 none_marked [] = refl
 none_marked (d ∷ list) = ap (λ marks. false ∷ marks) (none_marked list)
 
@@ -169,19 +169,19 @@ pub recalled_first : (db : Database) (dictionary : Entries) (count : ℕ) (known
     → RecallsFirst db dictionary memory
 recalled_first db dictionary count known marks digests memory some are digested below long none same agrees = record {
   sent = subst (λ n. ∥ HoldsFirst db dictionary n ∥₁) (sym long ∙ sym same) some;
-  agrees = agrees (map unmarked list)
-      (new_held db dictionary known (sents (map unmarked list)) (∥∥₁_map some (λ (p : HoldsFirst db dictionary count).
+  agrees = agrees (map new_deposit list)
+      (new_held db dictionary known (sents (map new_deposit list)) (∥∥₁_map some (λ (p : HoldsFirst db dictionary count).
       subst (λ (sent : List Sent). IsPermutation (deposit_rows 1 sent) (deposit_table db.trees)) (sym (its p)) p.1.deposits)) are)
       (none ∙ ap (λ n. replicate n false) (sym count_is) ∙ sym (none_marked list))
       (λ k d at. ∥∥₁_elim some (Prim.hlevel props) (λ (p : HoldsFirst db dictionary count).
       subst (AreDigested digests) (sym (its p)) (digested_held db digests p.0 p.1.deposits (subst (λ n. HoldsDigests db (n + 1) digests) (sym p.2) digested)) k d at))
-      (subst (λ n. AreBelow digests (n + 1)) (sym (length-map list unmarked ∙ count_is)) below);
+      (subst (λ n. AreBelow digests (n + 1)) (sym (length-map list new_deposit ∙ count_is)) below);
 }
   where
     list : List Sent
     list = sents_in db.trees
 
-    its : (p : HoldsFirst db dictionary count) → sents (map unmarked list) ≡ p.0
+    its : (p : HoldsFirst db dictionary count) → sents (map new_deposit list) ≡ p.0
     its p = sents_unmarked list ∙ sent_is db dictionary count p
 
     count_is : length list ≡ count
@@ -190,19 +190,19 @@ recalled_first db dictionary count known marks digests memory some are digested 
 pub recalled_then : (old new : Database) (dictionary : Entries) (memory : Memory) → RecallsFirst old dictionary memory → Migrates old new → Recalls new dictionary memory
 recalled_then old new dictionary memory found migrates = record {
   register = ∥∥₁_map found.sent (λ (p : HoldsFirst old dictionary (length memory.known.items)).
-      (let all : (list : List Deposit) × IsRegister new dictionary list × (length list ≡ length memory.known.items) = (map unmarked p.0, migrates.register dictionary p.0 p.1, length-map p.0 unmarked ∙ p.2) in all));
+      (let all : (list : List Deposit) × IsRegister new dictionary list × (length list ≡ length memory.known.items) = (map new_deposit p.0, migrates.register dictionary p.0 p.1, length-map p.0 new_deposit ∙ p.2) in all));
   agrees = subst (Agrees memory dictionary) same found.agrees;
 }
   where
-    same : map unmarked (sents_in old.trees) ≡ deposits_in new.trees
+    same : map new_deposit (sents_in old.trees) ≡ deposits_in new.trees
     same = ∥∥₁_elim found.sent (Prim.hlevel props) (λ (p : HoldsFirst old dictionary (length memory.known.items)).
-        ap (map unmarked) (sent_is old dictionary (length memory.known.items) p) ∙ sym (read_back new (map unmarked p.0) (migrates.register dictionary p.0 p.1)))
+        ap (map new_deposit) (sent_is old dictionary (length memory.known.items) p) ∙ sym (read_back new (map new_deposit p.0) (migrates.register dictionary p.0 p.1)))
 
 pub migrated_list : (old : Database) (new : State) (dictionary : Entries) (memory : Memory) → RecallsFirst old dictionary memory → Migrates old new.now → new.committed ≡ new.now
     → ∥ IsRegisterOf First old dictionary (deposits_in new.committed.trees) ∥₁ × (text_in old.trees ≡ text_in new.committed.trees)
 migrated_list old new dictionary memory found migrates settled = (
   ∥∥₁_map found.sent (λ (p : HoldsFirst old dictionary (length memory.known.items)).
-      (let list = map unmarked p.0 in
+      (let list = map new_deposit p.0 in
       let read : deposits_in new.committed.trees ≡ list = ap (λ (db : Database). deposits_in db.trees) settled ∙ read_back new.now list (migrates.register dictionary p.0 p.1) in
       let is : IsRegisterOf First old dictionary (deposits_in new.committed.trees) = subst (IsRegisterOf First old dictionary) (sym read) (unmarked_register old dictionary p.0 p.1) in is)),
   migrates.bytes ∙ ap (λ (db : Database). text_in db.trees) (sym settled),
@@ -210,7 +210,7 @@ migrated_list old new dictionary memory found migrates settled = (
 
 pub migrated_left : (old mid : State) (dictionary : Entries) (memory : Memory) (trees : Trees) → mid.now ≡ old.now → RecallsFirst old.now dictionary memory → ChangesOf Migrates mid trees → IsMigrated old trees
 migrated_left old mid dictionary memory trees same found put = ∥∥₁_map found.sent (λ (p : HoldsFirst old.now dictionary (length memory.known.items)).
-    (let list = map unmarked p.0 in
+    (let list = map new_deposit p.0 in
     let there = put.1.register dictionary p.0 (subst (λ (db : Database). HoldsSent First db dictionary p.0) (sym same) p.1) in
     let bytes = ap (λ (db : Database). text_in db.trees) (sym same) ∙ put.1.bytes ∙ ap text_in (sym put.3) in
     let all : MigratedOf old trees = (dictionary, list, unmarked_register old.now dictionary p.0 p.1, subst (λ t. IsRegister (tables t) dictionary list) (sym put.3) (as_tables put.0 dictionary list there), bytes) in all))

@@ -11,7 +11,7 @@ use Rattle.ags_dict.specs.Entries.{Entries}
 use Rattle.ags_check.specs.Findings.{CheckedFile}
 use Rattle.reg_store.specs.Fit.{kept_rows}
 use Rattle.reg_store.specs.Sent.{Sent}
-use Rattle.reg_store.specs.Deposit.{Deposit, marked, sents, sents_marked, unmarked}
+use Rattle.reg_store.specs.Deposit.{Deposit, with_withdrawn, sents, sents_with_withdrawn, new_deposit}
 use Rattle.reg_tables.specs.declared.schema.format.Format.{Format}
 use Rattle.reg_tables.specs.Tables.{format_number, schema_of}
 use Rattle.reg_tables.specs.declared.schema.format.Format.TheVariants.{First, Second}
@@ -25,7 +25,7 @@ use Rattle.reg_tables.proofs.RegisterLaws.{IsReady, holds_push}
 
 -- what was sent in tables of format 1 is a register of it, without a mark
 pub unmarked_register : (db : Database) (dictionary : Entries) (list : List Sent) → HoldsSent First db dictionary list
-    → IsRegisterOf First db dictionary (map unmarked list)
+    → IsRegisterOf First db dictionary (map new_deposit list)
 unmarked_register db dictionary list holds = record {
   holds = subst (HoldsSent First db dictionary) (sym (sents_unmarked list)) holds;
   marks = subst (λ rows. IsPermutation rows []) (sym (none_withdrawn 1 list)) (IsPermutation-refl []);
@@ -34,7 +34,7 @@ unmarked_register db dictionary list holds = record {
 pub register_push : (dictionary : Entries) (old new : Database) (list : List Deposit) (d : Sent) (file : CheckedFile)
     (count : ℕ) → IsRegister old dictionary list → count ≡ length list → count < 999999
     → AddsFile (count + 1) d (kept_rows file.groups) file.graph.steps old new → IsDatabase new
-    → IsReady dictionary (sents list) d file → IsRegister new dictionary (list ++ unmarked d ∷ [])
+    → IsReady dictionary (sents list) d file → IsRegister new dictionary (list ++ new_deposit d ∷ [])
 register_push dictionary old new list d file count was counted low put sound ready = record {
   holds = subst (HoldsSent Second new dictionary) (sym (sents_push list d)) (holds_push dictionary old new
       (sents list) d file count was.holds (counted ∙ sym (long_sents list)) low put sound ready);
@@ -74,9 +74,9 @@ holds_mark dictionary n old new list was put =
 
 pub register_mark : (dictionary : Entries) (old new : Database) (list : List Deposit) (n : ℕ) (d : Deposit)
     → IsRegister old dictionary list → 0 < n → slice_get list (n - 1) ≡ Some d → d.withdrawn ≡ false
-    → AddsMark n old new → IsRegister new dictionary (marked n list)
+    → AddsMark n old new → IsRegister new dictionary (with_withdrawn n list)
 register_mark dictionary old new list n d was low at none put = record {
-  holds = subst (HoldsSent Second new dictionary) (sym (sents_marked n list))
+  holds = subst (HoldsSent Second new dictionary) (sym (sents_with_withdrawn n list))
       (holds_mark dictionary n old new (sents list) was.holds put);
   marks =
       let more = IsPermutation-trans _ _ _ (IsPermutation-append_left (number_row n ∷ []) _ _ was.marks) put.rows in

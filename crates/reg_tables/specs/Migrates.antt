@@ -6,7 +6,7 @@ use Rattle.sqlite.specs.Effect.{Database, IsDatabase}
 use Rattle.sqlite.specs.State.{State, HasCleanDisk, Survives}
 use Rattle.ags_dict.specs.Entries.{Entries}
 use Rattle.reg_store.specs.Sent.{Sent}
-use Rattle.reg_store.specs.Deposit.{Deposit, unmarked}
+use Rattle.reg_store.specs.Deposit.{Deposit, new_deposit}
 use Rattle.reg_tables.specs.declared.error.AdoptError.{AdoptError}
 use Rattle.reg_tables.specs.declared.error.AdoptError.TheVariants.{Store}
 use Rattle.reg_tables.specs.declared.schema.format.Format.TheVariants.{First}
@@ -29,7 +29,7 @@ pub record AddsWithdrawals (old new : Database) : Type 0 where
 -- bytes are those from before.
 pub record Migrates (old new : Database) : Type 0 where
   pub register : (dictionary : Entries) (list : List Sent) → HoldsSent First old dictionary list
-      → IsRegister new dictionary (map unmarked list)
+      → IsRegister new dictionary (map new_deposit list)
   pub bytes : text_in old.trees ≡ text_in new.trees
 
 -- On a clean disk, the tables from before are a register of format 1, of this dictionary, and of the list and the
@@ -64,7 +64,7 @@ HoldsFirst db dictionary count = (list : List Sent) × HoldsSent First db dictio
 -- The tables hold what was sent, in format 1, and the memory agrees with it, without a mark.
 pub record RecallsFirst (db : Database) (dictionary : Entries) (memory : Memory) : Type 0 where
   pub sent : ∥ HoldsFirst db dictionary (length memory.known.items) ∥₁
-  pub agrees : Agrees memory dictionary (map unmarked (sents_in db.trees))
+  pub agrees : Agrees memory dictionary (map new_deposit (sents_in db.trees))
 
 -- An open finds a register of format 1, of this list, whose dictionary is these bytes.
 pub record FindsFirst (image : Image) (dictionary : Entries) (text : List ℕ) (list : List Deposit) : Type 0 where

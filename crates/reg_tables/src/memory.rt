@@ -5,7 +5,7 @@ ghost use Rattle.std.specs.Prelude.{slice_get, IsTrue, IfOk, IfErr, IfSome};
 ghost use Rattle.ags_dict.specs.Entries.{Entries};
 ghost use Rattle.reg_store.specs.Keep.{OfDeposit, fails};
 ghost use Rattle.reg_store.specs.Reading.{HasProjectRows, IsHeadAt};
-ghost use Rattle.reg_store.specs.Deposit.{Deposit, marked, sents, unmarked};
+ghost use Rattle.reg_store.specs.Deposit.{Deposit, with_withdrawn, sents, new_deposit};
 ghost use Rattle.reg_store.specs.Sent.{Sent, numbers_from};
 ghost use Rattle.reg_tables.specs.Private.Digests.{AreBelow, AreDigested, numbers_under};
 ghost use Rattle.reg_tables.specs.Private.Heads.{AreNew, KnowsFile};
@@ -217,7 +217,7 @@ impl Memory {
         requires room { HasRoom self.old coming }
         ensures agrees { (dictionary : Entries) (list : List Deposit) (d : Sent) → IsComing self.old d coming
             → KnowsFile dictionary d coming.known.file → Agrees self.old dictionary list
-            → Agrees self.new dictionary (list ++ unmarked d ∷ []) }
+            → Agrees self.new dictionary (list ++ new_deposit d ∷ []) }
         ensures long { length self.new.known.items ≡ length self.old.known.items + 1 }
     {
         let Coming {
@@ -234,7 +234,7 @@ impl Memory {
     pub(crate) fn mark(&mut self, n: u32)
         ensures same { length self.new.known.items ≡ length self.old.known.items }
         ensures agrees { (dictionary : Entries) (list : List Deposit) → Agrees self.old dictionary list
-            → Agrees self.new dictionary (marked n list) }
+            → Agrees self.new dictionary (with_withdrawn n list) }
     {
         if self.is_known(n) {
             self.known[n as usize - 1].head.withdrawn = true;

@@ -16,7 +16,6 @@ use reg_store::{Keep, KeepError};
 use std::alloc::Global;
 
 /// What a deposit is answered that the policy permits.
-#[tactic(none)]
 pub(super) fn serve_deposit<K: Keep>(
     alloc: Global,
     keep: &mut K,
@@ -39,7 +38,6 @@ pub(super) fn serve_deposit<K: Keep>(
 }
 
 /// What a deposit is answered that the policy permits and whose body has no finding.
-#[tactic(none)]
 fn serve_checked<K: Keep>(
     keep: &mut K,
     caller: &Caller,
@@ -70,7 +68,7 @@ fn serve_checked<K: Keep>(
 
 /// The number and the embargo of the deposit that is held already, withdrawn or not: the first that is equal in firm,
 /// project and bytes.
-#[tactic(auto, using(crate::proofs::Firsts::none_held))]
+#[tactic(auto, using(crate::proofs::Taken::none_held))]
 fn held_already<K: Keep>(
     keep: &mut K,
     firm: &Name,

@@ -20,7 +20,6 @@ use reg_store::{Keep, KeepError, KeptRow};
 use std::alloc::Global;
 
 /// What an extract is answered that the policy permits.
-#[tactic(none)]
 pub(super) fn serve_extract<K: Keep>(
     alloc: Global,
     keep: &mut K,

@@ -15,7 +15,6 @@ use reg_store::{Keep, KeepError};
 use std::alloc::Global;
 
 /// What a list is answered that the policy permits.
-#[tactic(none)]
 pub(super) fn serve_listing<K: Keep>(
     alloc: Global,
     keep: &mut K,

@@ -1,11 +1,11 @@
-//! A withdrawal: a firm's own deposit is marked, and stays kept.
+//! A withdrawal: a firm's own deposit is withdrawn, and stays held.
 
 ghost use Rattle.std.specs.Prelude.{◌≡◌, ◌≢◌, ℤ, List, false, Err, IfOk};
 ghost use Rattle.reg_policy.specs.declared.rule.Rule.{Rule};
 ghost use Rattle.reg_store.specs.Keep.{fails};
 ghost use Rattle.reg_desk.specs.Asked.{withdraw as asks_withdraw};
 ghost use Rattle.reg_desk.specs.Machine.{held};
-ghost use Rattle.reg_desk.specs.Serving.{OnlyReads, ServesPermitted, mark_of};
+ghost use Rattle.reg_desk.specs.Serving.{OnlyReads, ServesPermitted, withdrawn_of};
 
 use crate::answer::Answer;
 use crate::serving::{are_equal_names, refused};
@@ -13,7 +13,6 @@ use reg_policy::{Caller, Name};
 use reg_store::{Keep, KeepError};
 
 /// What a withdrawal is answered that the policy permits, under whichever rules and on whichever day.
-#[tactic(none)]
 pub(super) fn serve_withdraw<K: Keep>(
     keep: &mut K,
     caller: &Caller,
@@ -24,7 +23,7 @@ pub(super) fn serve_withdraw<K: Keep>(
     ensures { (rules : List Rule) (day : ℤ) → ServesPermitted K.Keep rules
         (asks_withdraw caller.now project.now number day) keep.old keep.new result }
 {
-    match own_mark(keep, caller, project, number) {
+    match own_withdrawn(keep, caller, project, number) {
         Err(error) => refused(error),
         Ok(None) => Answer::Unknown,
         Ok(Some(true)) => Answer::Withdrawn(number),
@@ -36,7 +35,7 @@ pub(super) fn serve_withdraw<K: Keep>(
 }
 
 /// Whether the deposit is withdrawn, if it is the project's and the caller's firm sent it.
-fn own_mark<K: Keep>(
+fn own_withdrawn<K: Keep>(
     keep: &mut K,
     caller: &Caller,
     project: &Name,
@@ -44,8 +43,8 @@ fn own_mark<K: Keep>(
 ) -> Result<Option<bool>, KeepError>
     requires { K.has_failed keep.old ≡ false }
     ensures reads { OnlyReads K.Keep keep.old keep.new (fails result) }
-    ensures own { K.is_sound keep.new → IfOk result (λ mark.
-        mark ≡ mark_of caller.now project.now (held number (K.deposits keep.old))) }
+    ensures own { K.is_sound keep.new → IfOk result (λ withdrawn.
+        withdrawn ≡ withdrawn_of caller.now project.now (held number (K.deposits keep.old))) }
     ensures refused { result ≢ Err KeepError.Full }
 {
     if number == 0 || number > keep.count() {

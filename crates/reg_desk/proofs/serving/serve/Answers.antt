@@ -19,13 +19,7 @@ returns-in-Deny-clause-serves g c =
 pub returns-in-Deny-clause-rows : goal.returns-in-Deny-clause-rows
 returns-in-Deny-clause-rows g c = denied_rows (asked c.args.request.now) c.in-Deny.rule
 
-pub serve_permitted-requires : goal.serve_permitted-requires
-serve_permitted-requires g c = c.requires
-
 pub returns-in-Permit-clause-serves : goal.returns-in-Permit-clause-serves
 returns-in-Permit-clause-serves g c =
     c.serve_permitted.ensures.serves c.in-Permit._rule
     (sym (c.decide.ensures.decides ∙ ap (decision_of c.args.policy.now) c.subject_of.ensures) ∙ c.in-Permit.is)
-
-pub returns-in-Permit-clause-rows : goal.returns-in-Permit-clause-rows
-returns-in-Permit-clause-rows g c = c.serve_permitted.ensures.rows

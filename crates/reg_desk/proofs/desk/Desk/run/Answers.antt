@@ -1,10 +1,10 @@
-use Rattle.std.proofs.Common.{◌≡◌, ◌∙◌, sym, ap, subst, refl, ◌+◌, List, [], ◌∷◌, ◌++◌, map, take, suc, arith}
-use Rattle.std.proofs.lemmas.List.{take_all}
+use Rattle.std.proofs.Common.{◌≡◌, ◌∙◌, sym, ap, subst, refl, ◌+◌, List, [], ◌∷◌, ◌++◌, get_or, map, take, arith}
+use Rattle.std.proofs.lemmas.List.{map-append, take_all, take_more}
 use Rattle.reg_desk.specs.Asked.{Asked, asked}
 use Rattle.reg_desk.specs.declared.answer.Answer.{Answer}
 use Rattle.reg_desk.specs.declared.request.Request.{Request}
 use Rattle.reg_desk.specs.Desks.{AreAnsweredBy}
-use Rattle.reg_desk.proofs.Running.{steps_run, answered_more, asked_more}
+use Rattle.reg_desk.proofs.Running.{steps_run, answered_more}
 use Rattle.reg_desk.proofs.desk.Desk.run.Goals as goal
 
 pub loop-request-init : goal.loop-request-init
@@ -21,9 +21,9 @@ loop-request-preserved g c =
     let i = c.loop-request.request-index in
     let was = c.loop-request.invariant in
     let requests = c.args.requests.now in
-    let next : i + 1 ≡ suc i = omega arith in
     let more : map asked (take (i + 1) requests) ≡ map asked (take i requests) ++ asked c.request-item.result ∷ [] =
-    ap (λ k. map asked (take k requests)) next ∙ asked_more requests i c.request-item.result c.loop-request-test.true
+    ap (map asked) (take_more requests i c.request-item.result c.loop-request-test.true)
+    ∙ map-append asked (take i requests) (get_or requests i c.request-item.result ∷ [])
     ∙ ap (λ (r : Request). map asked (take i requests) ++ asked r ∷ []) (sym c.request-item.is) in
     record {
       count = omega (arith, c.push_answer.ensures.len, was.count);

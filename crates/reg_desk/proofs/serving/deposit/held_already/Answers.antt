@@ -1,4 +1,4 @@
-use Rattle.reg_desk.proofs.Firsts.{none_held}
+use Rattle.reg_desk.proofs.Taken.{none_held}
 use Rattle.std.proofs.Common.{rules, ◌∙◌, sym, ap, subst, refl, ◌-◌, List, length, ◌<◌, ◌≤◌}
 use Rattle.std.specs.Prelude.{slice_get}
 use Rattle.reg_store.specs.Deposit.{Deposit}

@@ -1,16 +1,12 @@
-use Rattle.std.proofs.Common.{◌∙◌, sym, ap, subst, List, ℕ, Err, refl, arith}
+use Rattle.std.proofs.Common.{◌∙◌, sym, ap, List, ℕ, Err, refl, arith}
 use Rattle.reg_store.specs.Sent.{number_of}
 use Rattle.reg_store.specs.Deposit.{Deposit, sents}
-use Rattle.reg_desk.specs.Asked.{deposit}
 use Rattle.reg_desk.specs.Machine.{first_equal}
-use Rattle.reg_desk.specs.Serving.{Serves, terms_at}
-use Rattle.reg_desk.proofs.Firsts.{none_number}
-use Rattle.reg_desk.proofs.Serves.{still_works}
-use Rattle.reg_desk.proofs.Taking.{fine_of, first_of, deposit_unread, deposit_repeats, is_taken, deposit_full, deposit_added, deposit_unadded}
+use Rattle.reg_desk.specs.Serving.{terms_at}
+use Rattle.reg_desk.proofs.Taken.{none_number}
+use Rattle.reg_desk.proofs.Serves.{refused_serves, still_works}
+use Rattle.reg_desk.proofs.Taking.{fine_of, fine_asks, first_of, deposit_repeats, is_taken, deposit_full, deposit_added, deposit_unadded}
 use Rattle.reg_desk.proofs.serving.deposit.serve_checked.Goals as goal
-
-pub held_already-requires : goal.held_already-requires
-held_already-requires g c = c.requires.working
 
 pub returns-in-Err : goal.returns-in-Err
 returns-in-Err g c = λ rules day number permit.
@@ -18,8 +14,9 @@ returns-in-Err g c = λ rules day number permit.
     let keep = c.args.keep.now in
     let bytes = c.args.checked.now.bytes in
     let fine = fine_of (terms_at K rules keep) c.args.caller.now c.args.project.now bytes day c.args.checked.now.given number permit c.requires.short c.requires.dictionary c.bytes.ensures.clean.file.findings in
-    subst (Serves K rules (deposit c.args.caller.now c.args.project.now c.args.embargo bytes day) keep c.held_already.new.keep) (sym c.refused.ensures)
-    (deposit_unread K rules c.args.caller.now c.args.project.now c.args.embargo bytes day keep c.held_already.new.keep c.in-Err.error fine c.in-Err.ensures.reads (λ e. c.in-Err.ensures.refused (ap (λ x. Err x) e)))
+    rw c.refused.ensures
+    (refused_serves K rules _ keep c.held_already.new.keep c.in-Err.error c.in-Err.ensures.reads (λ e. c.in-Err.ensures.refused (ap (λ x. Err x) e))
+    (fine_asks K rules c.args.caller.now c.args.project.now c.args.embargo bytes day keep fine))
 
 pub returns-in-Ok-Some : goal.returns-in-Ok-Some
 returns-in-Ok-Some g c = λ rules day number permit.
@@ -28,7 +25,7 @@ returns-in-Ok-Some g c = λ rules day number permit.
     let bytes = c.args.checked.now.bytes in
     let fine = fine_of (terms_at K rules keep) c.args.caller.now c.args.project.now bytes day c.args.checked.now.given number permit c.requires.short c.requires.dictionary c.bytes.ensures.clean.file.findings in
     let held = rw c.in-Ok-Some.field-0-is at c.in-Ok-Some.ensures.held in
-    subst (Serves K rules (deposit c.args.caller.now c.args.project.now c.args.embargo bytes day) keep c.held_already.new.keep) (sym c.receipt.ensures.held)
+    rw c.receipt.ensures.held
     (deposit_repeats K rules c.args.caller.now c.args.project.now c.args.embargo bytes day keep c.held_already.new.keep c.in-Ok-Some.number c.in-Ok-Some.until fine c.in-Ok-Some.ensures.reads
     (λ s. first_of c.args.caller.now.firm c.args.project.now bytes c.bytes.result.now
     (sents (K.deposits keep)) _ c.bytes.ensures.bytes (held s)))
@@ -38,9 +35,6 @@ add-requires-clause-working g c = still_works g.K.Keep c.args.keep.now c.held_al
 
 pub add-requires-clause-dictionary : goal.add-requires-clause-dictionary
 add-requires-clause-dictionary g c = c.requires.dictionary ∙ sym c.in-Ok-None.ensures.reads.same_dictionary
-
-pub add-requires-clause-short : goal.add-requires-clause-short
-add-requires-clause-short g c = c.requires.short
 
 pub add-requires-clause-fresh : goal.add-requires-clause-fresh
 add-requires-clause-fresh g c = λ s.
@@ -73,7 +67,7 @@ returns-in-Err-add g c = λ rules day number permit.
     let bytes = c.args.checked.now.bytes in
     let fine = fine_of (terms_at K rules keep) c.args.caller.now c.args.project.now bytes day c.args.checked.now.given number permit c.requires.short c.requires.dictionary c.bytes.ensures.clean.file.findings in
     let held = rw c.in-Ok-None.field-0-is at c.in-Ok-None.ensures.held in
-    subst (Serves K rules (deposit c.args.caller.now c.args.project.now c.args.embargo bytes day) keep c.add.new.self) (sym c.refused-in-Err-add.ensures)
+    rw c.refused-in-Err-add.ensures
     (deposit_unadded K rules c.args.caller.now c.args.project.now c.args.embargo bytes day keep c.held_already.new.keep c.add.new.self c.in-Err-add.error fine
     c.in-Ok-None.ensures.reads
     (is_taken K rules c.args.caller.now c.args.project.now bytes day keep c.held_already.new.keep fine c.in-Ok-None.ensures.reads
@@ -89,7 +83,7 @@ returns-in-Ok g c = λ rules day number permit.
     let bytes = c.args.checked.now.bytes in
     let fine = fine_of (terms_at K rules keep) c.args.caller.now c.args.project.now bytes day c.args.checked.now.given number permit c.requires.short c.requires.dictionary c.bytes.ensures.clean.file.findings in
     let held = rw c.in-Ok-None.field-0-is at c.in-Ok-None.ensures.held in
-    subst (Serves K rules (deposit c.args.caller.now c.args.project.now c.args.embargo bytes day) keep c.add.new.self) (sym (c.receipt-in-Ok.ensures.new refl))
+    rw (c.receipt-in-Ok.ensures.new refl)
     (deposit_added K rules c.args.caller.now c.args.project.now c.args.embargo bytes day keep c.held_already.new.keep c.add.new.self c.in-Ok.number fine
     c.in-Ok-None.ensures.reads
     (is_taken K rules c.args.caller.now c.args.project.now bytes day keep c.held_already.new.keep fine c.in-Ok-None.ensures.reads

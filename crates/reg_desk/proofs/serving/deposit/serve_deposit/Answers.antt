@@ -6,9 +6,6 @@ use Rattle.reg_desk.proofs.Bodies.{refusal_is}
 use Rattle.reg_desk.proofs.Taking.{deposit_refused}
 use Rattle.reg_desk.proofs.serving.deposit.serve_deposit.Goals as goal
 
-pub check-requires : goal.check-requires
-check-requires g c = omega arith
-
 pub returns-then-bytes-gt-LIMIT : goal.returns-then-bytes-gt-LIMIT
 returns-then-bytes-gt-LIMIT g c = λ rules day number permit.
     deposit_refused g.K.Keep rules c.args.caller.now c.args.project.now c.args.embargo c.args.bytes.now day c.args.keep.now _ number c.requires permit (omega arith)
@@ -18,9 +15,6 @@ returns-in-Err g c = λ rules day number permit.
     let refusal = refusal_is c.dictionary.result.now c.args.bytes.now c.in-Err.error c.refusal_of.result (omega arith) (λ found e. c.in-Err.ensures.findings found (ap (λ x. Err x) e)) c.refusal_of.ensures.findings c.refusal_of.ensures.memory in
     deposit_refused g.K.Keep rules c.args.caller.now c.args.project.now c.args.embargo c.args.bytes.now day c.args.keep.now c.refusal_of.result number c.requires permit
     (subst (λ (e : Entries). IsRefusal e c.args.bytes.now c.refusal_of.result) c.dictionary.ensures refusal)
-
-pub serve_checked-requires-clause-working : goal.serve_checked-requires-clause-working
-serve_checked-requires-clause-working g c = c.requires
 
 pub serve_checked-requires-clause-dictionary : goal.serve_checked-requires-clause-dictionary
 serve_checked-requires-clause-dictionary g c = c.in-Ok.ensures.given ∙ c.dictionary.ensures

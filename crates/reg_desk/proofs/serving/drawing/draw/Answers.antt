@@ -22,9 +22,6 @@ returns-then-number-eq0-clause-drawn g c = λ s.
       | then-number-eq0-via-else-number-eq0+then-number-count w ↦ inr (omega (arith, w.if-number-count.true, w.count.ensures s c.requires))
     ]) ∣₁
 
-pub seen_head-requires-clause-working : goal.seen_head-requires-clause-working
-seen_head-requires-clause-working g c = c.requires
-
 pub seen_head-requires-clause-number : goal.seen_head-requires-clause-number
 seen_head-requires-clause-number g c = λ s. (omega (arith, c.if-number-eq0.false), omega (arith, c.if-number-count.false, c.count.ensures s c.requires))
 

@@ -1,18 +1,13 @@
-use Rattle.std.proofs.Common.{◌-◌, ◌<◌, length, map, subst, arith}
-use Rattle.reg_store.specs.Keep.{deposit_of}
-use Rattle.reg_store.specs.Sent.{Sent}
-use Rattle.reg_store.specs.Fit.{IsFileOf}
-use Rattle.reg_store.proofs.PlainLemmas.{kept_is_sent, kept_is_fit}
+use Rattle.reg_store.specs.Reading.{HasGraph}
+use Rattle.reg_store.proofs.PlainLemmas.{of_kept, kept_is_fit}
 use Rattle.reg_store.proofs.plain.PlainKeepKeep.steps.Goals as goal
 
 pub checked_steps-requires : goal.checked_steps-requires
 checked_steps-requires c =
     let keep = c.args.self.now in
-    let number = c.requires.number tt in
-    let low : c.args.n - 1 < length (map deposit_of keep.kept.items) = omega (arith, number.0, number.1) in
-    kept_is_fit keep.dictionary keep.kept.items (c.args.n - 1) c.index.result.now keep.fit low c.index.ensures
+    kept_is_fit keep.dictionary keep.kept.items c.args.n c.index.result.now keep.fit (c.requires.number tt) c.index.ensures
 
 pub returns-clause-read : goal.returns-clause-read
-returns-clause-read c = λ sound d file there its.
+returns-clause-read c = λ sound.
     let keep = c.args.self.now in
-    c.in_ok-graph.ensures file (subst (λ (one : Sent). IsFileOf keep.dictionary one file) (kept_is_sent keep.kept.items (c.args.n - 1) c.index.result.now d c.index.ensures there) its)
+    of_kept keep.dictionary keep.kept.items c.args.n c.index.result.now (HasGraph c.in_ok-graph.graph) c.index.ensures c.in_ok-graph.ensures

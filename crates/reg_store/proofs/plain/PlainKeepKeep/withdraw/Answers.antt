@@ -1,6 +1,6 @@
 use Rattle.std.proofs.Common.{ℕ, ◌-◌, ◌≤◌, inr, refl, sym, subst, ◌∙◌}
 use Rattle.std.proofs.lemmas.List.{length-set}
-use Rattle.reg_store.proofs.PlainLemmas.{kept_marked, marked_fit}
+use Rattle.reg_store.proofs.PlainLemmas.{kept_withdrawn, withdrawn_fit}
 use Rattle.reg_store.proofs.plain.PlainKeepKeep.withdraw.Goals as goal
 
 pub invariant_of-self-clause-within : goal.invariant_of-self-clause-within
@@ -11,12 +11,12 @@ invariant_of-self-clause-within c =
 pub invariant_of-self-clause-fit : goal.invariant_of-self-clause-fit
 invariant_of-self-clause-fit c =
     let keep = c.args.self.now in
-    marked_fit keep.dictionary keep.kept.items _ c.args.n (kept_marked keep.kept.items c.args.n c.index_mut-kept.result.now _ (c.requires.number tt).0 c.index_mut-kept.ensures.value refl) keep.fit
+    withdrawn_fit keep.dictionary keep.kept.items _ c.args.n (kept_withdrawn keep.kept.items c.args.n c.index_mut-kept.result.now _ (c.requires.number tt).0 c.index_mut-kept.ensures.value refl) keep.fit
 
 pub returns-clause-leaves : goal.returns-clause-leaves
 returns-clause-leaves c =
     let keep = c.args.self.now in
-    let next = kept_marked keep.kept.items c.args.n c.index_mut-kept.result.now _ (c.requires.number tt).0 c.index_mut-kept.ensures.value refl in
+    let next = kept_withdrawn keep.kept.items c.args.n c.index_mut-kept.result.now _ (c.requires.number tt).0 c.index_mut-kept.ensures.value refl in
     record {
       sound = λ _. tt;
       same_dictionary = refl;

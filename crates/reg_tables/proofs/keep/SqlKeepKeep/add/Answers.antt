@@ -3,7 +3,7 @@ use Rattle.std.proofs.lemmas.List.{length_push}
 use Rattle.sqlite.specs.Effect.{Database}
 use Rattle.sqlite.specs.State.{HasCleanDisk, Survives}
 use Rattle.sqlite.specs.Held.{state}
-use Rattle.reg_store.specs.Deposit.{Deposit, sents, unmarked}
+use Rattle.reg_store.specs.Deposit.{Deposit, sents, new_deposit}
 use Rattle.reg_store.specs.Sent.{Sent}
 use Rattle.reg_store.specs.Keep.{is_store}
 use Rattle.reg_store.specs.Fit.{IsFileOf, kept_rows}
@@ -66,7 +66,7 @@ abbrev held : (g : Over) → goal.After-push g → List Deposit
 held g c = deposits_in (state g.S.Store c.args.self.now.connection).committed.trees
 
 abbrev next : (g : Over) → goal.After-push g → List Deposit
-next g c = held g c ++ unmarked (added g c) ∷ []
+next g c = held g c ++ new_deposit (added g c) ∷ []
 
 -- the change of the tables
 abbrev Change : (g : Over) → goal.After-push g → Database → Database → Type 0
@@ -103,7 +103,7 @@ counts : (g : Over) (c : goal.After-push g) → HasCleanDisk (state g.S.Store c.
 counts g c clean =
     let old = state g.S.Store c.args.self.now.connection in
     let first = clean_before old (state g.S.Store c.add_checked-added.new.conn) c.add_checked-added.ensures.crash clean in
-    length_push (held g c) (unmarked (added g c)) ∙ ap (λ n. n + 1) (sym (counted_at {s = old} (c.args.self.now.kept c.requires.working first)))
+    length_push (held g c) (new_deposit (added g c)) ∙ ap (λ n. n + 1) (sym (counted_at {s = old} (c.args.self.now.kept c.requires.working first)))
 
 pub invariant_of-self-in-Ok-added-clause-kept : goal.invariant_of-self-in-Ok-added-clause-kept
 invariant_of-self-in-Ok-added-clause-kept g c works clean =
@@ -171,8 +171,8 @@ returns-clause-leaves g c =
       added = λ clean. tt;
       refused = λ clean well. ap (λ (db : Database). deposits_in db.trees) (c.in-Err.ensures.undone clean well).1;
       same_text = λ clean well. ap (λ (db : Database). text_in db.trees) (c.in-Err.ensures.undone clean well).1;
-      crash = λ clean. crash_at {old = old} {new = new} Change (list ++ unmarked d ∷ []) (keep.kept c.requires.working (before clean)) (becomes clean) (λ db put. put.meta) crash clean;
-      whole = λ clean. whole_next {old = old} {new = new} Change (list ++ unmarked d ∷ []) (keep.kept c.requires.working (before clean)) (becomes clean) crash clean;
+      crash = λ clean. crash_at {old = old} {new = new} Change (list ++ new_deposit d ∷ []) (keep.kept c.requires.working (before clean)) (becomes clean) (λ db put. put.meta) crash clean;
+      whole = λ clean. whole_next {old = old} {new = new} Change (list ++ new_deposit d ∷ []) (keep.kept c.requires.working (before clean)) (becomes clean) crash clean;
     }
 
 pub returns-then-count-ge-MOST-clause-full : goal.returns-then-count-ge-MOST-clause-full

@@ -2,7 +2,7 @@ use Rattle.std.proofs.Common.{◌≡◌, ℕ, arith, List, false, length, refl, 
 use Rattle.sqlite.specs.Effect.{Database}
 use Rattle.sqlite.specs.State.{HasCleanDisk}
 use Rattle.sqlite.specs.Held.{state}
-use Rattle.reg_store.specs.Deposit.{Deposit, marked}
+use Rattle.reg_store.specs.Deposit.{Deposit, with_withdrawn}
 use Rattle.reg_store.specs.Keep.{is_store}
 use Rattle.reg_tables.specs.Private.Inserts.{AddsMark}
 use Rattle.reg_tables.proofs.KeepLaws.{HoldsNext, BecomesNext, counted_at, crash_at, keeps_same, mark_next, next_at}
@@ -51,23 +51,23 @@ abbrev held : (g : Over) → After-mark g → List Deposit
 held g c = deposits_in (state g.S.Store c.args.self.now.connection).committed.trees
 
 becomes : (g : Over) (c : After-mark g) → HasCleanDisk (state g.S.Store c.change_tables.new.conn)
-    → BecomesNext (state g.S.Store c.args.self.now.connection) c.args.self.now.dictionary (length c.args.self.now.memory.known.items) (AddsMark c.args.n) (marked c.args.n (held g c))
+    → BecomesNext (state g.S.Store c.args.self.now.connection) c.args.self.now.dictionary (length c.args.self.now.memory.known.items) (AddsMark c.args.n) (with_withdrawn c.args.n (held g c))
 becomes g c clean =
     let old = state g.S.Store c.args.self.now.connection in
     let first = clean_before old (state g.S.Store c.change_tables.new.conn) c.change_tables.ensures.crash clean in
     let number = c.requires.number first in
-    mark_next {old = old} c.args.n number.0 number.1 (c.requires.unmarked first)
+    mark_next {old = old} c.args.n number.0 number.1 (c.requires.not_withdrawn first)
 
 -- the store that held the list holds it with the mark
 more : (g : Over) (c : After-mark g) → HasCleanDisk (state g.S.Store c.change_tables.new.conn)
-    → HoldsNext (state g.S.Store c.change_tables.new.conn) c.args.self.now.dictionary (length (marked c.args.n (held g c))) (marked c.args.n (held g c))
+    → HoldsNext (state g.S.Store c.change_tables.new.conn) c.args.self.now.dictionary (length (with_withdrawn c.args.n (held g c))) (with_withdrawn c.args.n (held g c))
 more g c clean =
     let keep = c.args.self.now in
     let old = state g.S.Store keep.connection in
     let new = state g.S.Store c.change_tables.new.conn in
     let first = clean_before old new c.change_tables.ensures.crash clean in
     let put = c.in-Ok.ensures.made clean in
-    next_at {old = old} {new = new} (AddsMark c.args.n) (marked c.args.n (held g c)) (keep.kept c.requires.working first) (becomes g c clean) put.change put.sound (c.in-Ok.ensures.settled clean) (c.in-Ok.ensures.open clean refl)
+    next_at {old = old} {new = new} (AddsMark c.args.n) (with_withdrawn c.args.n (held g c)) (keep.kept c.requires.working first) (becomes g c clean) put.change put.sound (c.in-Ok.ensures.settled clean) (c.in-Ok.ensures.open clean refl)
 
 pub invariant_of-self-clause-kept : goal.invariant_of-self-clause-kept
 invariant_of-self-clause-kept g c works clean =
@@ -89,7 +89,7 @@ returns-in-Ok-clause-leaves g c =
     let keep = c.args.self.now in
     let old = state g.S.Store keep.connection in
     let new = state g.S.Store c.change_tables.new.conn in
-    let next = marked c.args.n (held g c.before) in
+    let next = with_withdrawn c.args.n (held g c.before) in
     let before = λ (clean : HasCleanDisk new). clean_before old new c.change_tables.ensures.crash clean in
     record {
       sound = before;
@@ -108,9 +108,9 @@ returns-in-Err-clause-leaves g c =
     let keep = c.args.self.now in
     let old = state g.S.Store keep.connection in
     let new = state g.S.Store c.change_tables.new.conn in
-    let next = marked c.args.n (deposits_in old.committed.trees) in
+    let next = with_withdrawn c.args.n (deposits_in old.committed.trees) in
     let before = λ (clean : HasCleanDisk new). clean_before old new c.change_tables.ensures.crash clean in
-    let becomes = λ (clean : HasCleanDisk new). mark_next {old = old} {dictionary = keep.dictionary} {count = length keep.memory.known.items} c.args.n (c.requires.number (before clean)).0 (c.requires.number (before clean)).1 (c.requires.unmarked (before clean)) in
+    let becomes = λ (clean : HasCleanDisk new). mark_next {old = old} {dictionary = keep.dictionary} {count = length keep.memory.known.items} c.args.n (c.requires.number (before clean)).0 (c.requires.number (before clean)).1 (c.requires.not_withdrawn (before clean)) in
     record {
       sound = before;
       same_dictionary = refl;

@@ -2,7 +2,7 @@ use Rattle.std.proofs.Common.{[], drop}
 use Rattle.std.specs.List.{items_where_true}
 use Rattle.reg_store.specs.Project.{headed_rows}
 use Rattle.reg_store.proofs.ProjectLemmas.{marked_end}
-use Rattle.reg_store.proofs.project.marked_rows.Goals as goal
+use Rattle.reg_store.proofs.project.rows_at_marks.Goals as goal
 
 pub returns : goal.returns
 returns c =

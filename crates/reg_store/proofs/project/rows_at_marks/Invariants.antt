@@ -1,7 +1,7 @@
 use Rattle.std.proofs.Common.{◌≡◌, ◌≤◌, ◌++◌, [], drop}
 use Rattle.std.specs.List.{items_where_true}
 use Rattle.reg_store.specs.Project.{headed_rows}
-use Rattle.reg_store.proofs.project.marked_rows.Given as goal
+use Rattle.reg_store.proofs.project.rows_at_marks.Given as goal
 
 abbrev pub invariant-loop-row : goal.invariant-loop-row
 invariant-loop-row l = record {
