@@ -64,6 +64,12 @@ AreNumbers count links = All (λ n. n < count) links.rows.now × IsStrictlyIncre
 abbrev pub text_at : List (Option ℕ) → PlacedRow → List ℕ
 text_at places row = key_text (fields_at places row)
 
+-- the text is row n's entries under its link headings
+abbrev pub IsLinkText : List PlacedRow → List LinkPlaces → ℕ → List ℕ → Type 0
+IsLinkText rows of_groups n text =
+    (row : PlacedRow) (links : LinkPlaces) → At rows n row → At of_groups row.place links
+    → text ≡ text_at links.places.items row
+
 -- row n has its parent rows in this look-up
 pub record IsUserOf (rows : List PlacedRow) (of_groups : List LinkPlaces) (lookup n : ℕ) (row : PlacedRow)
     (links : LinkPlaces) : Type 0 where

@@ -9,4 +9,4 @@ pub lists_of_lookups-requires-clause-size : goal.lists_of_lookups-requires-claus
 lists_of_lookups-requires-clause-size c = omega (arith, ap length c.deref-2.ensures.value, c.in_ok-users.ensures.size, c.requires.size)
 
 pub lists_of_lookups-requires-clause-users : goal.lists_of_lookups-requires-clause-users
-lists_of_lookups-requires-clause-users c = subst (HaveUsers c.args.rows.now c.args.of_groups.now) (sym c.deref-2.ensures.value) c.in_ok-users.ensures.users
+lists_of_lookups-requires-clause-users c = subst (HaveUsers c.args.linked.now.filed.rows.now c.args.linked.now.of_groups.items) (sym c.deref-2.ensures.value) c.in_ok-users.ensures.users
