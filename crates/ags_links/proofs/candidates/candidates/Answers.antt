@@ -54,5 +54,3 @@ row-requires c = c.requires.numbers.0 0 0 (some_items c.args.links.now.rows.now 
 pub loop-place-init : goal.loop-place-init
 loop-place-init c = none_chosen (map row_of c.args.filed.now.rows.now) c.args.links.now.rows.now (link_names c.args.links.now) (text_at c.args.places.now c.args.row.now) c.new-chosen.result.items c.new-chosen.ensures.items
 
-pub bounds-rows-number : goal.bounds-rows-number
-bounds-rows-number c = c.requires.numbers.0 c.loop-place.place 0 c.loop-place-test.true

@@ -9,8 +9,5 @@ loop-row-init c = record {
   each = c.in_ok-beside.ensures.empty;
 }
 
-pub returns-clause-rows : goal.returns-clause-rows
-returns-clause-rows c = c.loop-row.invariant.rows
-
 pub returns-clause-each : goal.returns-clause-each
 returns-clause-each c = subst (λ steps. IsAdjacency steps c.loop-row.beside.items) (take_all c.loop-row.row-index c.args.steps.now c.loop-row-test.false) c.loop-row.invariant.each

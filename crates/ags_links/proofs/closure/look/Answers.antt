@@ -18,15 +18,7 @@ loop-target-preserved c =
       turns = omega arith;
     }
 
-pub bounds-marks-target : goal.bounds-marks-target
-bounds-marks-target c = omega (arith, c.requires.rows c.loop-target.target-index 0 c.loop-target-test.true, c.loop-target.auto.marks)
-
-pub overflow_add-turns : goal.overflow_add-turns
-overflow_add-turns c = omega (arith, c.requires.room, c.loop-target.invariant.turns, c.loop-target-test.true)
-
 pub returns-clause-looked : goal.returns-clause-looked
 returns-clause-looked c =
     subst (λ seen. Looked seen c.args.marks.now c.loop-target.marks c.args.work.now.items c.loop-target.work.items) (take_all c.loop-target.target-index c.args.beside.now c.loop-target-test.false) c.loop-target.invariant.looked
 
-pub returns-clause-turns : goal.returns-clause-turns
-returns-clause-turns c = omega (arith, c.loop-target.invariant.turns, c.loop-target-test.false, c.loop-target.auto.target-index-end)

@@ -13,9 +13,6 @@ loop-row-preserved c = elim c.if-marked.branch [
   | else-marked w ↦ rw w.work-is (rows_over _ _ _ c.loop-row.invariant c.loop-row-test.true w.if-marked.false)
 ]
 
-pub returns-clause-marked : goal.returns-clause-marked
-returns-clause-marked c = c.loop-row.invariant.marked
-
 pub returns-clause-all : goal.returns-clause-all
 returns-clause-all c = λ r h. c.loop-row.invariant.all r (omega (arith, marked_below c.args.marks.now r h)) h
 

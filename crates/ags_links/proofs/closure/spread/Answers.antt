@@ -6,14 +6,8 @@ use Rattle.ags_links.proofs.Growing.{written_back}
 use Rattle.ags_links.proofs.closure.spread.Goals as goal
 use Rattle.ags_links.proofs.closure.spread.Goals.{After-drop-beside-2}
 
-pub marked_rows-requires : goal.marked_rows-requires
-marked_rows-requires c = c.requires.rows
-
 pub follow-requires-clause-range : goal.follow-requires-clause-range
 follow-requires-clause-range c = subst (λ (marks : List Bool). InRange (length marks) c.args.steps.now) (sym (c.deref_mut.ensures.value ∙ c.in_ok-marks.ensures.items)) c.requires.range
-
-pub follow-requires-clause-length : goal.follow-requires-clause-length
-follow-requires-clause-length c = ap length c.deref.ensures.value ∙ c.in_ok-beside.ensures.rows ∙ sym (ap length (c.deref_mut.ensures.value ∙ c.in_ok-marks.ensures.items))
 
 pub follow-requires-clause-rows : goal.follow-requires-clause-rows
 follow-requires-clause-rows c = subst (λ (marks : List Bool). length marks < 2 ^ 32) (sym (c.deref_mut.ensures.value ∙ c.in_ok-marks.ensures.items)) c.requires.rows

@@ -25,8 +25,5 @@ loop-number-preserved c =
 pub loop-number-init : goal.loop-number-init
 loop-number-init c = kept_none (λ place. IsEntryUnder c.args.filed.now.rows.now c.args.heading.now) c.in_ok-entries.entries.items c.in_ok-entries.ensures.items
 
-pub row-requires : goal.row-requires
-row-requires c = c.requires c.loop-number.number-index 0 c.loop-number-test.true
-
 pub returns : goal.returns
 returns c = kept_all (λ place. IsEntryUnder c.args.filed.now.rows.now c.args.heading.now) c.args.numbers.now c.loop-number.number-index c.loop-number.entries.items c.loop-number-test.false c.loop-number.invariant

@@ -10,9 +10,6 @@ use Rattle.ags_links.proofs.Using.{have_places}
 use Rattle.ags_links.proofs.listed_parents.parents_among.Goals as goal
 use Rattle.ags_links.proofs.listed_parents.parents_among.Goals.{In_ok-of_groups}
 
-pub shared_places-requires : goal.shared_places-requires
-shared_places-requires c = omega (arith, ap length c.deref.ensures.value, c.requires.families.each_has, c.in_ok-links.ensures.each_has)
-
 -- where the link headings of each group are, said of the links themselves
 placed : (c : In_ok-of_groups) → AreKept c.in_ok-links.links.items c.in_ok-of_groups.of_groups.items (IsPlacedAt c.args.filed.now.families.now (texts_in c.in_ok-links.links.items))
 placed c = subst (λ (ls : List ParentLinks). AreKept ls c.in_ok-of_groups.of_groups.items (IsPlacedAt c.args.filed.now.families.now (texts_in ls))) c.deref.ensures.value c.in_ok-of_groups.ensures
@@ -30,9 +27,6 @@ pub used_lists-requires-clause-numbers : goal.used_lists-requires-clause-numbers
 used_lists-requires-clause-numbers c =
     subst (All (AreNumbers (length c.args.filed.now.rows.now))) (sym c.deref-2.ensures.value)
     (all_numbers c.args.filed.now.dictionary.now c.args.by_group.now (map row_of c.args.filed.now.rows.now) (length c.args.filed.now.rows.now) c.args.groups.now c.in_ok-links.links.items (length-map c.args.filed.now.rows.now row_of) c.requires.by_group c.in_ok-links.ensures)
-
-pub used_lists-requires-clause-size : goal.used_lists-requires-clause-size
-used_lists-requires-clause-size c = omega (arith, c.in_ok-of_groups.ensures.each_has, ap length c.deref.ensures.value, ap length c.deref-2.ensures.value)
 
 pub returns : goal.returns
 returns c =

@@ -18,8 +18,3 @@ loop-preserved c =
       empty = All-push (λ (v : Vec ℕ Global). v.items ≡ []) c.loop.lists.items c.new.result c.loop.invariant.empty c.new.ensures.items;
     })
 
-pub returns-clause-count : goal.returns-clause-count
-returns-clause-count c = omega (arith, c.loop.invariant.count, c.loop-test.false, c.loop.auto.counter-end)
-
-pub returns-clause-empty : goal.returns-clause-empty
-returns-clause-empty c = c.loop.invariant.empty

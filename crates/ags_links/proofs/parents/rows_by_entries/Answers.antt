@@ -21,9 +21,6 @@ loop-number-init c = record {
   placed = λ family at. absurd (omega (arith, at.0));
 }
 
-pub places_at-requires-clause-place : goal.places_at-requires-clause-place
-places_at-requires-clause-place c = c.row.ensures.family.0
-
 pub loop-number-preserved : goal.loop-number-preserved
 loop-number-preserved c =
     let numbers = c.args.numbers.now in

@@ -22,9 +22,6 @@ loop-row-preserved c =
           ∙ mapped_more (row_in (group_contents c.index-groups-place.result)) fields_of (map row_of c.args.rows.now.items) (map row_of c.loop-row.rows.items) c.as_slice-row-items.result.now c.loop-row.row-index c.row-item.result c.loop-row-test.true c.row-item.is c.loop-row.invariant.rows;
     })
 
-pub returns-clause-placed : goal.returns-clause-placed
-returns-clause-placed c = c.loop-row.invariant.placed
-
 pub returns-clause-rows : goal.returns-clause-rows
 returns-clause-rows c = λ d.
     let start = map row_of c.args.rows.now.items in

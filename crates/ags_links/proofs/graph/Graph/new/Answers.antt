@@ -4,9 +4,6 @@ use Rattle.std.proofs.lemmas.List.Elements.{All-push}
 use Rattle.ags_links.specs.Walks.{InRange}
 use Rattle.ags_links.proofs.graph.Graph.new.Goals as goal
 
-pub loop-row-init : goal.loop-row-init
-loop-row-init c = λ k d lt. absurd (omega (arith, lt))
-
 pub loop-row-preserved : goal.loop-row-preserved
 loop-row-preserved c =
     let steps = c.deref-row-items.result.now in
