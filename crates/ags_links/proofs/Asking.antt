@@ -48,9 +48,6 @@ users_ask rows of_groups place users asked uses texts q asks none =
 
 -- ---- the texts that are asked for
 
-pub no_texts : (rows : List PlacedRow) (of_groups : List LinkPlaces) (asked : Lookup) → AreTextsOf rows of_groups [] asked
-no_texts rows of_groups asked n row links h = absurd (omega (arith, h.1))
-
 empty_left : (xs ys : List ℕ) → xs ++ ys ≡ [] → xs ≡ []
 empty_left [] ys e = refl
 empty_left (x ∷ xs) ys e = let none : x ∷ (xs ++ ys) ≡ [] = e in absurd cc

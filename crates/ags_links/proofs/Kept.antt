@@ -8,12 +8,11 @@ use Rattle.ags_rows.specs.Contents.{group_contents, contents_of, fields_of}
 use Rattle.ags_rows.specs.Groups.{row_count}
 use Rattle.ags_dict.specs.Entries.{Entries}
 use Rattle.ags_links.specs.declared.families.Family.{Family}
-use Rattle.ags_links.specs.Lookups.{Lookup}
+use Rattle.ags_links.specs.Lookups.{Lookup, found, Finds}
 use Rattle.ags_links.specs.declared.placed.PlacedRow.{PlacedRow}
 use Rattle.ags_rows.specs.Collecting.{At}
 use Rattle.ags_links.specs.DataRows.{DataRow, data_rows, data_rows_of_group, row_in}
 use Rattle.ags_links.specs.Families.{HasText, HasGroupName, HasFamily, IsFamily, AreKept, AreFamilies}
-use Rattle.ags_links.specs.Lookups.{found, Finds}
 use Rattle.ags_links.specs.Placing.{IsPlaced, row_of}
 use Rattle.ags_links.proofs.Growing.{flat_map_push}
 use Rattle.ags_links.proofs.RowLemmas.{one_at, at_cases}

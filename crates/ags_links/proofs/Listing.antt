@@ -1,8 +1,8 @@
 -- The parent rows of each row, listed one look-up at a time.
-use Rattle.std.proofs.Common.{◌≡◌, ℕ, ◌+◌, ◌-◌, ◌<◌, ◌≤◌, List, [], ◌∷◌, ◌++◌, length, get_or, set, take, drop, map, refl, sym, ap, subst, ◌∙◌, arith, inl, inr, All, Contains, Vec}
+use Rattle.std.proofs.Common.{◌≡◌, ℕ, ◌+◌, ◌-◌, ◌<◌, List, [], ◌∷◌, ◌++◌, length, get_or, set, take, drop, map, refl, sym, ap, subst, ◌∙◌, arith, inl, inr, All, Contains, Vec}
 use Rattle.std.specs.declared.alloc.Global.{Global}
 use Rattle.std.proofs.lemmas.Bool.{cases_eq}
-use Rattle.std.proofs.lemmas.List.{get_or-set_same, get_or-set_other, length-map, length-set, length-take-le, take_all, take_more, take-map, drop-map}
+use Rattle.std.proofs.lemmas.List.{get_or-set_same, get_or-set_other, length-map, length-set, length-take-le, take_more, take-map, drop-map}
 use Rattle.std.proofs.lemmas.List.Elements.{Contains-append_left, Contains-push, Contains-push_cases}
 use Rattle.ags_rows.specs.declared.rows.Group.{Group}
 use Rattle.ags_rows.specs.Contents.{field_at}
@@ -96,9 +96,6 @@ module _ (rows : List PlacedRow) (of_groups : List LinkPlaces) where
           subst (λ l. IsSpanOf l (text_at ks.places.items row) span) last.1
           (are.noted n row ks span ((uses n).1 (row, ks, record { stands = at_row; grouped = at_ks; uses = last.0 ∙ count })) at_row at_ks at_span)
     ]
-
-  pub all_listed : (links : List ParentLinks) (i : ℕ) (lists : List (Vec ℕ Global)) (spans : List Span) → length links ≤ i → AreListed rows of_groups (take i links) lists spans → AreListed rows of_groups links lists spans
-  all_listed links i lists spans le so_far = subst (λ ls. AreListed rows of_groups ls lists spans) (take_all i links le) so_far
 
 -- ---- all groups
 

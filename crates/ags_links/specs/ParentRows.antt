@@ -8,7 +8,7 @@ use Rattle.ags_rows.specs.Contents.{place_in}
 use Rattle.ags_rows.specs.declared.rows.Group.{Group}
 use Rattle.ags_dict.specs.Entries.{Entries, keys_of, parent_of}
 use Rattle.ags_links.specs.declared.families.Family.{Family}
-use Rattle.ags_links.specs.Lookups.{Lookup}
+use Rattle.ags_links.specs.Lookups.{Lookup, FindsAsked, found, IsSpanOf}
 use Rattle.ags_links.specs.declared.parents.HeadingPlaces.{HeadingPlaces}
 use Rattle.ags_links.specs.declared.parents.ParentLinks.{ParentLinks}
 use Rattle.ags_links.specs.declared.parents.LinkPlaces.{LinkPlaces}
@@ -19,7 +19,6 @@ use Rattle.ags_rows.specs.Collecting.{At}
 use Rattle.ags_links.specs.DataRows.{DataRow, RowsRelate, ListsRows}
 use Rattle.ags_links.specs.Families.{AreKept, HasText, HasEntries, HasAmong}
 use Rattle.ags_links.specs.KeyTexts.{key_text}
-use Rattle.ags_links.specs.Lookups.{FindsAsked, found, IsSpanOf}
 use Rattle.ags_links.specs.Parents.{IsParentRow}
 use Rattle.ags_links.specs.Placing.{row_of, fields_at}
 

@@ -5,7 +5,7 @@ use Rattle.ags_rows.specs.Collecting.{At}
 use Rattle.ags_links.specs.Families.{HasEntries}
 use Rattle.ags_links.specs.ParentRows.{link_names, text_at}
 use Rattle.ags_links.specs.Placing.{row_of}
-use Rattle.ags_links.proofs.Choosing.{all_chosen, chosen_next, chosen_over, first_entry, has_no_text, none_chosen}
+use Rattle.ags_links.proofs.Choosing.{chosen_next, chosen_over, first_entry, has_no_text}
 use Rattle.ags_links.proofs.Heading.{places_named}
 use Rattle.ags_links.proofs.Kept.{texts}
 use Rattle.ags_links.proofs.Members.{some_items}
@@ -45,12 +45,6 @@ loop-place-preserved c =
       ])
     ]
 
-pub returns : goal.returns
-returns c = all_chosen (map row_of c.args.filed.now.rows.now) c.args.links.now.rows.now (link_names c.args.links.now) (text_at c.args.places.now c.args.row.now) c.loop-place.chosen.items c.loop-place.place c.loop-place-test.false c.loop-place.invariant
-
 pub row-requires : goal.row-requires
 row-requires c = c.requires.numbers.0 0 0 (some_items c.args.links.now.rows.now c.is_empty.result c.is_empty.ensures c.if-is_empty.false)
-
-pub loop-place-init : goal.loop-place-init
-loop-place-init c = none_chosen (map row_of c.args.filed.now.rows.now) c.args.links.now.rows.now (link_names c.args.links.now) (text_at c.args.places.now c.args.row.now) c.new-chosen.result.items c.new-chosen.ensures.items
 

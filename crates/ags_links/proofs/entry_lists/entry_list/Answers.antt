@@ -4,7 +4,7 @@ use Rattle.ags_links.specs.DataRows.{entry_of}
 use Rattle.ags_links.specs.declared.placed.PlacedRow.{PlacedRow}
 use Rattle.ags_links.specs.EntryLists.{IsEntryUnder}
 use Rattle.ags_links.specs.Placing.{row_of}
-use Rattle.ags_links.proofs.Kept.{kept_all, kept_next, kept_none}
+use Rattle.ags_links.proofs.Kept.{kept_next}
 use Rattle.ags_links.proofs.RowLemmas.{one_at, read_at}
 use Rattle.ags_links.proofs.entry_lists.entry_list.Goals as goal
 
@@ -22,8 +22,3 @@ loop-number-preserved c =
     (kept_next (λ place. IsEntryUnder rows heading) numbers i c.loop-number.entries.items n c.field.result c.loop-number-test.true (sym (read_at numbers i 0 c.loop-number-test.true).1) c.loop-number.invariant
     (λ other at. under ∙ ap (λ (r : PlacedRow). entry_of (row_of r) heading) (one_at rows n row other c.row.ensures.row at)))
 
-pub loop-number-init : goal.loop-number-init
-loop-number-init c = kept_none (λ place. IsEntryUnder c.args.filed.now.rows.now c.args.heading.now) c.in_ok-entries.entries.items c.in_ok-entries.ensures.items
-
-pub returns : goal.returns
-returns c = kept_all (λ place. IsEntryUnder c.args.filed.now.rows.now c.args.heading.now) c.args.numbers.now c.loop-number.number-index c.loop-number.entries.items c.loop-number-test.false c.loop-number.invariant

@@ -7,12 +7,9 @@ use Rattle.ags_rows.specs.Contents.{field_at}
 use Rattle.ags_links.specs.Placing.{row_of}
 use Rattle.ags_links.specs.Lookups.{found, pairs_of}
 use Rattle.ags_links.proofs.ByText.{pushed}
-use Rattle.ags_links.proofs.Finding.{finds_begin, finds_row, finds_over, finds_rows, finds_ok}
+use Rattle.ags_links.proofs.Finding.{finds_row, finds_over, finds_rows, finds_ok}
 use Rattle.ags_links.proofs.families.rows_by_file_set.Goals as goal
 use Rattle.ags_links.proofs.families.rows_by_file_set.Goals.{then-eq+in_ok-text+in_ok-push, else-eq}
-
-pub loop-number-init : goal.loop-number-init
-loop-number-init c = finds_begin (pairs_of c.new-pairs.result.items) HasFileSet (λ q. ap (λ ps. found (pairs_of ps) q) c.new-pairs.ensures.items)
 
 pub loop-number-preserved : goal.loop-number-preserved
 loop-number-preserved c =

@@ -3,11 +3,8 @@ use Rattle.ags_links.specs.Families.{HasText, HasGroupName}
 use Rattle.ags_links.specs.Placing.{row_of}
 use Rattle.ags_links.specs.Lookups.{found, pairs_of}
 use Rattle.ags_links.proofs.ByText.{pushed}
-use Rattle.ags_links.proofs.Finding.{finds_begin, finds_row, finds_rows, finds_ok}
+use Rattle.ags_links.proofs.Finding.{finds_row, finds_rows, finds_ok}
 use Rattle.ags_links.proofs.families.rows_by_group.Goals as goal
-
-pub loop-number-init : goal.loop-number-init
-loop-number-init c = finds_begin (pairs_of c.in_ok-pairs.pairs.items) HasGroupName (λ q. ap (λ ps. found (pairs_of ps) q) c.in_ok-pairs.ensures.items)
 
 pub loop-number-preserved : goal.loop-number-preserved
 loop-number-preserved c =

@@ -7,12 +7,9 @@ use Rattle.ags_links.specs.Placing.{row_of}
 use Rattle.ags_dict.specs.Entries.{keys_of}
 use Rattle.ags_links.specs.Lookups.{found, pairs_of}
 use Rattle.ags_links.proofs.ByText.{pushed}
-use Rattle.ags_links.proofs.Finding.{finds_begin, finds_row, finds_rows, finds_ok}
+use Rattle.ags_links.proofs.Finding.{finds_row, finds_rows, finds_ok}
 use Rattle.ags_links.proofs.Heading.{entries_at}
 use Rattle.ags_links.proofs.families.rows_by_key.Goals as goal
-
-pub loop-number-init : goal.loop-number-init
-loop-number-init c = finds_begin (pairs_of c.in_ok-pairs.pairs.items) (HasKeyText c.args.filed.now.dictionary.now) (λ q. ap (λ ps. found (pairs_of ps) q) c.in_ok-pairs.ensures.items)
 
 pub loop-number-preserved : goal.loop-number-preserved
 loop-number-preserved c =

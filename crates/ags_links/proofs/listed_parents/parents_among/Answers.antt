@@ -1,8 +1,8 @@
-use Rattle.std.proofs.Common.{sym, subst, map, ap, refl, arith, All, length, List}
+use Rattle.std.proofs.Common.{sym, subst, map, refl, arith, All, length, List}
 use Rattle.std.proofs.lemmas.List.{length-map}
 use Rattle.ags_links.specs.declared.parents.ParentLinks.{ParentLinks}
 use Rattle.ags_links.specs.Families.{AreKept}
-use Rattle.ags_links.specs.ParentRows.{AreListed, AreNumbers, HasPlaces, IsPlacedAt, texts_in}
+use Rattle.ags_links.specs.ParentRows.{AreListed, AreNumbers, IsPlacedAt, texts_in}
 use Rattle.ags_links.specs.Placing.{row_of}
 use Rattle.ags_links.proofs.Listing.{lists_made}
 use Rattle.ags_links.proofs.Sharing.{all_numbers, parents_made}

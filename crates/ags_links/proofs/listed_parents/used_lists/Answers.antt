@@ -1,4 +1,4 @@
-use Rattle.std.proofs.Common.{sym, subst, ap, arith, length}
+use Rattle.std.proofs.Common.{sym, subst}
 use Rattle.ags_links.specs.ParentRows.{HaveUsers}
 use Rattle.ags_links.proofs.listed_parents.used_lists.Goals as goal
 

@@ -1,5 +1,4 @@
 use Rattle.std.proofs.Common.{◌<◌, map, sym, subst, length, All}
-use Rattle.std.specs.List.Sorted.{IsStrictlyIncreasing}
 use Rattle.std.proofs.lemmas.Result.{IfOk-weaker}
 use Rattle.ags_links.specs.Families.{HasAmong, HasEntries}
 use Rattle.ags_links.specs.Lookups.{Finds}
@@ -14,9 +13,6 @@ pub rows_by_entries-requires-clause-below : goal.rows_by_entries-requires-clause
 rows_by_entries-requires-clause-below c =
     subst (All (λ n. n < length c.args.filed.now.rows.now)) (sym c.deref-2.ensures.value)
     (chosen_below (map row_of c.args.filed.now.rows.now) c.args.links.now.rows.now (link_names c.args.links.now) (text_at c.args.places.now c.args.row.now) c.in_ok-numbers.numbers.items (length c.args.filed.now.rows.now) c.in_ok-numbers.ensures c.requires.numbers.0)
-
-pub rows_by_entries-requires-clause-rising : goal.rows_by_entries-requires-clause-rising
-rows_by_entries-requires-clause-rising c = subst IsStrictlyIncreasing (sym c.deref-2.ensures.value) c.in_ok-numbers.ensures.rising
 
 pub returns : goal.returns
 returns c =

@@ -1,25 +1,18 @@
-use Rattle.std.proofs.Common.{◌≡◌, ◌++◌, get_or, map, ap, sym, subst, ◌∙◌, arith}
+use Rattle.std.proofs.Common.{◌≡◌, ◌++◌, get_or, map, ap, sym, subst, ◌∙◌}
 use Rattle.ags_rows.specs.Contents.{place_in, field_at}
 use Rattle.ags_rows.specs.Collecting.{At}
 use Rattle.ags_links.specs.DataRows.{entry_of}
-use Rattle.ags_links.specs.Families.{HasEntries}
 use Rattle.ags_links.specs.KeyTexts.{key_text}
 use Rattle.ags_links.specs.Placing.{row_of}
-use Rattle.ags_links.specs.Lookups.{Finds, found, pairs_of}
-use Rattle.ags_links.specs.ParentRows.{HasAskedAmong, IsAskedIn}
+use Rattle.ags_links.specs.Lookups.{Finds, pairs_of}
+use Rattle.ags_links.specs.ParentRows.{HasAskedAmong}
 use Rattle.ags_links.proofs.Asking.{finds_asked_number}
-use Rattle.ags_links.proofs.Finding.{finds_no_number, finds_ok}
+use Rattle.ags_links.proofs.Finding.{finds_ok}
 use Rattle.ags_links.proofs.Heading.{entries_at}
 use Rattle.ags_links.proofs.Kept.{texts}
 use Rattle.std.proofs.lemmas.List.{take_all}
 use Rattle.ags_rows.proofs.Lemmas.{at_map}
 use Rattle.ags_links.proofs.parents.rows_by_entries.Goals as goal
-
-pub loop-number-init : goal.loop-number-init
-loop-number-init c = record {
-  finds = finds_no_number (pairs_of c.in_ok-pairs.pairs.items) (λ r q. HasEntries (texts c.args.headings.now) r q × IsAskedIn c.args.asked q) (map row_of c.args.filed.now.rows.now) (λ q. ap (λ ps. found (pairs_of ps) q) c.in_ok-pairs.ensures.items);
-  placed = λ family at. absurd (omega (arith, at.0));
-}
 
 pub loop-number-preserved : goal.loop-number-preserved
 loop-number-preserved c =

@@ -1,11 +1,8 @@
 use Rattle.std.proofs.Common.{◌∙◌, ap, get_or}
 use Rattle.ags_links.specs.Lookups.{found, pairs_of}
-use Rattle.ags_links.proofs.Asking.{no_texts, texts_found, texts_next}
+use Rattle.ags_links.proofs.Asking.{texts_found, texts_next}
 use Rattle.ags_links.proofs.ByText.{pushed}
 use Rattle.ags_links.proofs.parents.texts_asked.Goals as goal
-
-pub loop-number-init : goal.loop-number-init
-loop-number-init c = no_texts c.args.linked.now.filed.rows.now c.args.linked.now.of_groups.items (pairs_of c.in_ok-pairs.pairs.items)
 
 pub loop-number-preserved : goal.loop-number-preserved
 loop-number-preserved c =

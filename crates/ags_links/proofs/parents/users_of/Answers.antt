@@ -1,13 +1,7 @@
 use Rattle.std.proofs.Common.{◌<◌, ◌∙◌, length, arith}
 use Rattle.std.proofs.lemmas.List.{length-set}
-use Rattle.ags_links.proofs.Using.{no_users, all_users, users_next}
+use Rattle.ags_links.proofs.Using.{all_users, users_next}
 use Rattle.ags_links.proofs.parents.users_of.Goals as goal
-
-pub loop-number-init : goal.loop-number-init
-loop-number-init c = record {
-  size = omega (arith, c.in_ok-users.ensures.count, c.len.ensures);
-  users = no_users c.args.linked.now.filed.rows.now c.args.linked.now.of_groups.items c.in_ok-users.users.items c.in_ok-users.ensures.empty;
-}
 
 pub loop-number-preserved : goal.loop-number-preserved
 loop-number-preserved c =
