@@ -4,13 +4,12 @@ use Rattle.std.specs.List.Sorted.{IsStrictlyIncreasing}
 use Rattle.std.proofs.lemmas.List.Elements.{Contains-get_or}
 use Rattle.ags_dict.specs.Entries.{Entries, parent_of}
 use Rattle.ags_rows.specs.Parts.{parts_at}
-use Rattle.ags_links.specs.Lookups.{Lookup, FindsAsked}
+use Rattle.ags_links.specs.Lookups.{Lookup, FindsAsked, found, Finds, HasOneText, AreFirstWith}
 use Rattle.ags_rows.specs.Collecting.{At}
 use Rattle.ags_links.specs.DataRows.{DataRow, RowsRelate, ListsRows, entry_of}
 use Rattle.ags_links.specs.Families.{HasText, HasKeyText, HasFileSet}
 use Rattle.ags_links.specs.Keys.{key_of, HasKeyOf, IsFirstOfKey, AreFirstsOfKeys}
 use Rattle.ags_links.specs.KeyTexts.{key_text}
-use Rattle.ags_links.specs.Lookups.{found, Finds, HasOneText, AreFirstWith}
 use Rattle.ags_links.specs.ParentRows.{AreLinkHeadings, HasParentEntries}
 use Rattle.ags_links.specs.Parents.{IsParentRow}
 use Rattle.ags_links.specs.RecordLinks.{Names}

@@ -10,10 +10,9 @@ use Rattle.ags_links.specs.declared.placed.PlacedRow.{PlacedRow}
 use Rattle.ags_links.specs.DataRows.{DataRow}
 use Rattle.ags_links.specs.Families.{HasAmong, HasEntries}
 use Rattle.ags_links.specs.Lookups.{Lookup, Finds, FindsAsked, found}
-use Rattle.ags_links.specs.ParentRows.{AddsAsked, AreTextsOf, HasAskedAmong, HasUsers, IsAskedIn, IsAskedOf, text_at}
+use Rattle.ags_links.specs.ParentRows.{AddsAsked, AreTextsOf, HasAskedAmong, HasUsers, IsAskedIn, IsAskedOf, IsLinkText, text_at}
 use Rattle.ags_links.specs.Placing.{row_of}
 use Rattle.ags_links.proofs.Finding.{IsAdded, finds_asked, finds_number, finds_over_number, one_added}
-use Rattle.ags_links.proofs.RowLemmas.{one_at}
 use Rattle.std.specs.List.Sorted.{IsStrictlyIncreasing}
 
 -- the next row, whose text is this, is added if that is asked for
@@ -49,9 +48,6 @@ users_ask rows of_groups place users asked uses texts q asks none =
 
 -- ---- the texts that are asked for
 
-pub no_texts : (rows : List PlacedRow) (of_groups : List LinkPlaces) (asked : Lookup) → AreTextsOf rows of_groups [] asked
-no_texts rows of_groups asked n row links h = absurd (omega (arith, h.1))
-
 empty_left : (xs ys : List ℕ) → xs ++ ys ≡ [] → xs ≡ []
 empty_left [] ys e = refl
 empty_left (x ∷ xs) ys e = let none : x ∷ (xs ++ ys) ≡ [] = e in absurd cc
@@ -67,15 +63,13 @@ texts_found rows of_groups users i (Ok l) old le so_far same = λ n row links h 
 texts_found rows of_groups users i (Err e) old le so_far same = same
 
 -- one more
-pub texts_next : (rows : List PlacedRow) (of_groups : List LinkPlaces) (users : List ℕ) (i : ℕ) (old new : Lookup) (x : PlacedRow) (k : LinkPlaces) → i < length users → AreTextsOf rows of_groups (take i users) old → At rows (get_or users i 0) x → At of_groups x.place k
-    → IsAdded old new (text_at k.places.items x) (get_or users i 0) → AreTextsOf rows of_groups (take (i + 1) users) new
-texts_next rows of_groups users i old new x k lt so_far at_x at_k added n row links h at_row at_links none = elim (Contains-push_cases (take i users) (get_or users i 0) n (subst (λ l. Contains l n) (take_more users i 0 lt) h)) [
-  | inl was ↦ stays old new (text_at k.places.items x) (text_at links.places.items row) (get_or users i 0) added (so_far n row links was at_row at_links) none
+pub texts_next : (rows : List PlacedRow) (of_groups : List LinkPlaces) (users : List ℕ) (i : ℕ) (old new : Lookup) (text : List ℕ) → i < length users → AreTextsOf rows of_groups (take i users) old
+    → IsLinkText rows of_groups (get_or users i 0) text → IsAdded old new text (get_or users i 0) → AreTextsOf rows of_groups (take (i + 1) users) new
+texts_next rows of_groups users i old new text lt so_far is_text added n row links h at_row at_links none = elim (Contains-push_cases (take i users) (get_or users i 0) n (subst (λ l. Contains l n) (take_more users i 0 lt) h)) [
+  | inl was ↦ stays old new text (text_at links.places.items row) (get_or users i 0) added (so_far n row links was at_row at_links) none
   | inr is ↦
-      let row_is : x ≡ row = one_at rows n x row (subst (λ (j : ℕ). At rows j x) is at_x) at_row in
-      let links_are : k ≡ links = one_at of_groups row.place k links (subst (λ (r : PlacedRow). At of_groups r.place k) row_is at_k) at_links in
-      let same : text_at k.places.items x ≡ text_at links.places.items row = ap (λ (j : LinkPlaces). text_at j.places.items x) links_are ∙ ap (text_at links.places.items) row_is in
+      let same : text ≡ text_at links.places.items row = is_text row links (subst (λ (j : ℕ). At rows j row) (sym is) at_row) at_links in
       let e : found old (text_at links.places.items row) ++ get_or users i 0 ∷ [] ≡ [] =
-      ap (λ b. found old (text_at links.places.items row) ++ cond b (get_or users i 0 ∷ []) []) (sym ((bytes_eq-Decides (text_at k.places.items x) (text_at links.places.items row)).1 same)) ∙ sym (added (text_at links.places.items row)) ∙ none in
+      ap (λ b. found old (text_at links.places.items row) ++ cond b (get_or users i 0 ∷ []) []) (sym ((bytes_eq-Decides text (text_at links.places.items row)).1 same)) ∙ sym (added (text_at links.places.items row)) ∙ none in
       omega (arith, ap length e, length_push (found old (text_at links.places.items row)) (get_or users i 0))
 ]

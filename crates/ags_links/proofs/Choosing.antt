@@ -1,5 +1,5 @@
 -- Those of the rows of a parent group that may be parent rows of one row.
-use Rattle.std.proofs.Common.{◌≡◌, ℕ, ◌+◌, ◌<◌, ◌≤◌, Bool, true, false, not, Option, List, [], ◌∷◌, ◌++◌, length, take, get_or, map, sym, ap, subst, ◌∙◌, arith, inl, inr, Contains, All}
+use Rattle.std.proofs.Common.{◌≡◌, ℕ, ◌+◌, ◌<◌, Bool, true, false, not, Option, List, [], ◌∷◌, ◌++◌, length, take, get_or, map, sym, ap, subst, ◌∙◌, arith, inl, inr, Contains, All}
 use Rattle.std.specs.Str.{bytes_eq}
 use Rattle.std.proofs.lemmas.Bool.{true≢false, cases_eq}
 use Rattle.std.proofs.lemmas.Slice.Eq.{bytes_eq-Decides}
@@ -8,7 +8,7 @@ use Rattle.ags_dict.specs.Entries.{Entries}
 use Rattle.ags_links.specs.declared.families.Family.{Family}
 use Rattle.ags_links.specs.declared.placed.PlacedRow.{PlacedRow}
 use Rattle.std.specs.List.Sorted.{IsStrictlyIncreasing}
-use Rattle.std.proofs.lemmas.List.{take_more, take_all, length-map}
+use Rattle.std.proofs.lemmas.List.{take_more, length-map}
 use Rattle.std.proofs.lemmas.List.Elements.{Contains-get_or, Contains-push, Contains-push_cases, Contains-append_left}
 use Rattle.ags_rows.specs.Collecting.{At}
 use Rattle.ags_links.specs.DataRows.{DataRow, entry_of}
@@ -17,7 +17,7 @@ use Rattle.ags_links.specs.Lookups.{Lookup, Finds, FindsAsked}
 use Rattle.ags_links.specs.ParentRows.{AreCandidates, text_at}
 use Rattle.ags_links.specs.Placing.{row_of}
 use Rattle.ags_links.proofs.Finding.{before_next, finds_asked}
-use Rattle.ags_links.proofs.Rising.{rising_nil, rising_push}
+use Rattle.ags_links.proofs.Rising.{rising_push}
 use Rattle.ags_links.proofs.Heading.{entries_at}
 use Rattle.ags_links.proofs.Kept.{kept_family}
 use Rattle.ags_rows.proofs.Lemmas.{at_map}
@@ -54,13 +54,6 @@ first_entry names places x y place placed has =
     (name.0, name.1, same_at (entry_of (row_of x)) (field_at (row_of y).fields) names places 0 name.0 place same name.1 placed)
 
 module _ (rows : List DataRow) (numbers : List ℕ) (headings : List (List ℕ)) (text : List ℕ) where
-  pub none_chosen : (chosen : List ℕ) → chosen ≡ [] → AreCandidates rows [] headings text chosen
-  none_chosen chosen e = record {
-    rising = subst IsStrictlyIncreasing (sym e) rising_nil;
-    among = λ n h. subst (λ l. Contains l n) e h;
-    all = λ n s h row has. absurd (omega (arith, h.1));
-  }
-
   -- one more of the numbers is chosen
   pub chosen_next : (chosen new : List ℕ) (i : ℕ) → i < length numbers → IsStrictlyIncreasing numbers → AreCandidates rows (take i numbers) headings text chosen → new ≡ chosen ++ get_or numbers i 0 ∷ [] → AreCandidates rows (take (i + 1) numbers) headings text new
   chosen_next chosen new i lt rises so_far e =
@@ -91,9 +84,6 @@ module _ (rows : List DataRow) (numbers : List ℕ) (headings : List (List ℕ))
           | inr is ↦ absurd (other (subst (λ r. HasEntries headings r text) (one_at rows m s x row (subst (λ (k : ℕ). At rows k x) is at)) has))
         ];
       }
-
-  pub all_chosen : (chosen : List ℕ) (i : ℕ) → length numbers ≤ i → AreCandidates rows (take i numbers) headings text chosen → AreCandidates rows numbers headings text chosen
-  all_chosen chosen i le so_far = subst (λ ns. AreCandidates rows ns headings text chosen) (take_all i numbers le) so_far
 
   -- of rows that are not chosen none has the text
   pub chosen_asked : (chosen : List ℕ) (lookup : Lookup) → AreCandidates rows numbers headings text chosen → Finds lookup (HasAmong chosen rows (HasEntries headings)) → FindsAsked lookup (λ asked. text ≡ asked) (HasAmong numbers rows (HasEntries headings))

@@ -7,16 +7,14 @@ use Rattle.std.proofs.lemmas.Bool.{cases_Bool}
 use Rattle.std.proofs.lemmas.Slice.Eq.{bytes_eq-Decides}
 use Rattle.std.proofs.lemmas.List.{take_more, length-take-le, length-map, map-append, map_more, take_all, get_or_default, get_or-take}
 use Rattle.std.proofs.lemmas.List.Elements.{Contains-push, Contains-push_cases, Contains-append_cases, Contains-append_left, filter-append}
-use Rattle.ags_links.specs.Lookups.{Lookup}
+use Rattle.ags_links.specs.Lookups.{Lookup, found, Finds, FindsAsked}
 use Rattle.ags_links.specs.declared.placed.PlacedRow.{PlacedRow}
 use Rattle.ags_rows.specs.Collecting.{At}
 use Rattle.ags_links.specs.DataRows.{DataRow}
 use Rattle.ags_links.specs.Families.{HasText, HasAmong}
-use Rattle.ags_links.specs.Lookups.{found, Finds, FindsAsked}
 use Rattle.ags_links.specs.Placing.{row_of}
-use Rattle.ags_links.proofs.Rising.{rising_nil, rising_push, earlier_is_below}
+use Rattle.ags_links.proofs.Rising.{rising_push, earlier_is_below}
 use Rattle.ags_links.proofs.Members.{contains_if}
-use Rattle.ags_rows.proofs.Lemmas.{none_is}
 use Rattle.ags_links.proofs.RowLemmas.{at_before, at_last, at_cases, one_at}
 
 -- one row was added at a text
@@ -68,12 +66,6 @@ asked_same lookup WasAsked IsAsked Had Has so_far asks to from = record {
   exact = λ q asked m. (λ h. to m q ((so_far.exact q (asks q asked) m).0 h), λ h. (so_far.exact q (asks q asked) m).1 (from m q h));
 }
 
-pub finds_none : (lookup : Lookup) (Has : ℕ → List ℕ → Type 0) → ((q : List ℕ) → found lookup q ≡ []) → ((m : ℕ) (q : List ℕ) → Has m q → ⊥) → Finds lookup Has
-finds_none lookup Has empty none = record {
-  rising = λ q. subst IsStrictlyIncreasing (sym (empty q)) rising_nil;
-  exact = λ q m. (λ h. absurd (none_is m (subst (λ l. Contains l m) (empty q) h)), λ h. absurd (none m q h));
-}
-
 -- two look-ups that find the same rows at each text
 pub finds_ok : {E : Type 0} (r : Result Lookup E) (old : Lookup) (Has : ℕ → List ℕ → Type 0) → IfOk r (λ l. (q : List ℕ) → found l q ≡ found old q) → Finds old Has → IfOk r (λ l. Finds l Has)
 finds_ok (Ok l) old Has same so_far = record {
@@ -84,23 +76,20 @@ finds_ok (Err e) old Has same so_far = same
 
 -- ---- rows of a file, from the first on
 
-rows_next : (rows : List PlacedRow) (i : ℕ) (x : PlacedRow) → i < length rows → x ≡ get_or rows i x → map row_of (take (i + 1) rows) ≡ map row_of (take i rows) ++ row_of x ∷ []
-rows_next rows i x lt is = map_more row_of rows i x lt ∙ ap (λ y. map row_of (take i rows) ++ row_of y ∷ []) (sym is)
+rows_next : (rows : List PlacedRow) (i : ℕ) (x : PlacedRow) → At rows i x → map row_of (take (i + 1) rows) ≡ map row_of (take i rows) ++ row_of x ∷ []
+rows_next rows i x at = map_more row_of rows i x at.0 ∙ ap (λ y. map row_of (take i rows) ++ row_of y ∷ []) at.1
 
 rows_length : (rows : List PlacedRow) (i : ℕ) → i < length rows → length (map row_of (take i rows)) ≡ i
 rows_length rows i lt = length-map (take i rows) row_of ∙ length-take-le i rows (omega arith)
 
-pub finds_begin : (lookup : Lookup) (Has : DataRow → List ℕ → Type 0) → ((q : List ℕ) → found lookup q ≡ []) → Finds lookup (HasText [] Has)
-finds_begin lookup Has empty = finds_none lookup (HasText [] Has) empty (λ m q h. omega (arith, h.1.0))
-
 -- the next row is added at its text
-pub finds_row : (old new : Lookup) (Has : DataRow → List ℕ → Type 0) (rows : List PlacedRow) (i : ℕ) (x : PlacedRow) (text : List ℕ) → i < length rows → x ≡ get_or rows i x
+pub finds_row : (old new : Lookup) (Has : DataRow → List ℕ → Type 0) (rows : List PlacedRow) (i : ℕ) (x : PlacedRow) (text : List ℕ) → At rows i x
     → Finds old (HasText (map row_of (take i rows)) Has) → IsAdded old new text i → Has (row_of x) text → ((q : List ℕ) → Has (row_of x) q → text ≡ q)
     → Finds new (HasText (map row_of (take (i + 1) rows)) Has)
-finds_row old new Has rows i x text lt is so_far added here only =
+finds_row old new Has rows i x text at so_far added here only =
     let before = map row_of (take i rows) in
-    let len = rows_length rows i lt in
-    subst (λ rs. Finds new (HasText rs Has)) (sym (rows_next rows i x lt is)) (finds_more old new (HasText before Has) (HasText (before ++ row_of x ∷ []) Has) i text so_far added
+    let len = rows_length rows i at.0 in
+    subst (λ rs. Finds new (HasText rs Has)) (sym (rows_next rows i x at)) (finds_more old new (HasText before Has) (HasText (before ++ row_of x ∷ []) Has) i text so_far added
     (λ m q h. omega (arith, h.1.0, len))
     (λ m q h. (h.0, at_before before (row_of x) m h.0 h.1, h.2))
     (row_of x, subst (λ (k : ℕ). At (before ++ row_of x ∷ []) k (row_of x)) len (at_last before (row_of x)), here)
@@ -110,11 +99,11 @@ finds_row old new Has rows i x text lt is so_far added here only =
     ]))
 
 -- the next row has no text
-pub finds_over : (old : Lookup) (Has : DataRow → List ℕ → Type 0) (rows : List PlacedRow) (i : ℕ) (x : PlacedRow) → i < length rows → x ≡ get_or rows i x
+pub finds_over : (old : Lookup) (Has : DataRow → List ℕ → Type 0) (rows : List PlacedRow) (i : ℕ) (x : PlacedRow) → At rows i x
     → Finds old (HasText (map row_of (take i rows)) Has) → ((q : List ℕ) → Has (row_of x) q → ⊥) → Finds old (HasText (map row_of (take (i + 1) rows)) Has)
-finds_over old Has rows i x lt is so_far none =
+finds_over old Has rows i x at so_far none =
     let before = map row_of (take i rows) in
-    subst (λ rs. Finds old (HasText rs Has)) (sym (rows_next rows i x lt is)) (record {
+    subst (λ rs. Finds old (HasText rs Has)) (sym (rows_next rows i x at)) (record {
       rising = so_far.rising;
       exact = λ q m. (
         λ h. let was = (so_far.exact q m).0 h in (was.0, at_before before (row_of x) m was.0 was.1, was.2),
@@ -180,9 +169,3 @@ one_added old new text n e q =
     ∙ ap (λ l. found old q ++ l) last where
       last : found ((text, n) ∷ []) q ≡ cond (bytes_eq text q) (n ∷ []) []
       last = elim (cases_Bool (bytes_eq text q)) [ inl e ↦ rw e | inr e ↦ rw e ]
-
-pub finds_no_number : (lookup : Lookup) (Has : DataRow → List ℕ → Type 0) (rows : List DataRow) → ((q : List ℕ) → found lookup q ≡ []) → Finds lookup (HasAmong [] rows Has)
-finds_no_number lookup Has rows empty = finds_none lookup (HasAmong [] rows Has) empty (λ m q h. omega (arith, h.0.1))
-
-pub finds_numbers : (lookup : Lookup) (Has : DataRow → List ℕ → Type 0) (rows : List DataRow) (numbers : List ℕ) (i : ℕ) → length numbers ≤ i → Finds lookup (HasAmong (take i numbers) rows Has) → Finds lookup (HasAmong numbers rows Has)
-finds_numbers lookup Has rows numbers i le so_far = subst (λ ns. Finds lookup (HasAmong ns rows Has)) (take_all i numbers le) so_far

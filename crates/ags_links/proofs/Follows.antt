@@ -7,7 +7,7 @@ use Rattle.ags_links.specs.Walks.{IsMarked, HasStep, IsReached}
 use Rattle.ags_links.specs.Turns.{turns_of}
 use Rattle.ags_links.specs.Work.{Looked, weigh, targets}
 use Rattle.ags_links.proofs.Weights.{weigh_turns, weigh_one, degree}
-use Rattle.ags_links.proofs.WalkLemmas.{reach_keeps, reached_more, reached_itself}
+use Rattle.ags_links.proofs.WalkLemmas.{reach_keeps, reached_more}
 use Rattle.ags_links.proofs.Members.{target_of_step, step_of_target}
 
 -- one for a row, and one for each step that starts at it
@@ -20,15 +20,6 @@ pub record Following (steps : List (ℕ × ℕ)) (from marks : List Bool) (work 
   pub marked : (r : ℕ) → Contains work r → IsMarked marks r
   pub open' : (r s : ℕ) → HasStep steps r s → IsMarked marks r → Contains work r ⊎ IsMarked marks s
   pub balance : turns + sum_by (cost steps) work ≡ weigh (cost steps) marks
-
-pub follow_begins : (steps : List (ℕ × ℕ)) (from : List Bool) (work : List ℕ) → ((r : ℕ) → Contains work r → IsMarked from r) → ((r : ℕ) → IsMarked from r → Contains work r) → ((w : ℕ → ℕ) → sum_by w work ≡ weigh w from) → Following steps from from work 0
-follow_begins steps from work marked all weight = record {
-  grows = λ r h. h;
-  sound = λ s h. reached_itself (HasStep steps) (IsMarked from) s h;
-  marked = marked;
-  open' = λ r s step h. inl (all r h);
-  balance = omega (arith, weight (cost steps));
-}
 
 -- one row is taken, and the steps beside it are looked at
 pub follow_more : (steps : List (ℕ × ℕ)) (from marks : List Bool) (work : List ℕ) (turns row : ℕ) (more : List Bool) (next : List ℕ) → Following steps from marks (work ++ row ∷ []) turns → Looked (targets steps row) marks more work next → Following steps from more next (turns + 1 + length (targets steps row))

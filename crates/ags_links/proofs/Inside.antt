@@ -7,7 +7,7 @@ use Rattle.ags_dict.specs.Entries.{Entries}
 use Rattle.ags_links.specs.declared.families.Family.{Family}
 use Rattle.ags_links.specs.declared.parents.ParentLists.{ParentLists}
 use Rattle.ags_links.specs.declared.lookup.Span.{Span}
-use Rattle.ags_links.specs.Lookups.{Lookup}
+use Rattle.ags_links.specs.Lookups.{Lookup, Finds}
 use Rattle.ags_links.specs.declared.placed.PlacedRow.{PlacedRow}
 use Rattle.ags_links.specs.declared.separators.Separators.{Separators}
 use Rattle.ags_rows.specs.Collecting.{At}
@@ -16,7 +16,6 @@ use Rattle.ags_links.specs.Families.{AreKept, HasText, HasKeyText, HasFileSet, A
 use Rattle.ags_links.specs.Keys.{AreFirstsOfKeys}
 use Rattle.ags_links.specs.ParentRows.{IsParentList}
 use Rattle.ags_links.specs.Indexing.{Indexes, rows_in}
-use Rattle.ags_links.specs.Lookups.{Finds}
 use Rattle.ags_links.specs.Placing.{IsPlaced, row_of}
 use Rattle.ags_links.specs.RecordLinks.{separators_of}
 use Rattle.ags_links.proofs.Kept.{placed_at}

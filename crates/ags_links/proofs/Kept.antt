@@ -8,12 +8,11 @@ use Rattle.ags_rows.specs.Contents.{group_contents, contents_of, fields_of}
 use Rattle.ags_rows.specs.Groups.{row_count}
 use Rattle.ags_dict.specs.Entries.{Entries}
 use Rattle.ags_links.specs.declared.families.Family.{Family}
-use Rattle.ags_links.specs.Lookups.{Lookup}
+use Rattle.ags_links.specs.Lookups.{Lookup, found, Finds}
 use Rattle.ags_links.specs.declared.placed.PlacedRow.{PlacedRow}
 use Rattle.ags_rows.specs.Collecting.{At}
 use Rattle.ags_links.specs.DataRows.{DataRow, data_rows, data_rows_of_group, row_in}
 use Rattle.ags_links.specs.Families.{HasText, HasGroupName, HasFamily, IsFamily, AreKept, AreFamilies}
-use Rattle.ags_links.specs.Lookups.{found, Finds}
 use Rattle.ags_links.specs.Placing.{IsPlaced, row_of}
 use Rattle.ags_links.proofs.Growing.{flat_map_push}
 use Rattle.ags_links.proofs.RowLemmas.{one_at, at_cases}
@@ -86,17 +85,10 @@ rows_have entries groups families rows kept placed i d lt =
     let at_group : At groups row.place row.group.now = placed i d lt in
     (omega (arith, at_group.0, kept.each_has), λ family at_family. kept.each row.place row.group.now family at_group at_family)
 
-pub row_has : (entries : Entries) (families : List Family) (rows : List PlacedRow) (i : ℕ) (x : PlacedRow) → All (HasFamily entries families) rows → At rows i x → HasFamily entries families x
-row_has entries families rows i x have h = subst (HasFamily entries families) h.1 (have i x h.0)
-
--- there is something kept for a row's group
-pub family_below : (entries : Entries) (families : List Family) (rows : List PlacedRow) (i : ℕ) (x : PlacedRow) → All (HasFamily entries families) rows → At rows i x → x.place < length families
-family_below entries families rows i x have h = (row_has entries families rows i x have h).0
-
 -- what is kept for a row's group
 pub kept_family : (entries : Entries) (families : List Family) (rows : List PlacedRow) (i : ℕ) (x : PlacedRow) (family : Family) → All (HasFamily entries families) rows → At rows i x → get_or families x.place family ≡ family → IsFamily entries x.group.now family
 kept_family entries families rows i x family have h is =
-    let has = row_has entries families rows i x have h in
+    let has = subst (HasFamily entries families) h.1 (have i x h.0) in
     has.1 family (has.0, is)
 
 -- ---- the rows of a group

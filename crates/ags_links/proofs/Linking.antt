@@ -47,9 +47,6 @@ adds_none old IsOne none = record { only = λ n h. inl h; kept = λ n h. h; all 
 
 -- ---- parts
 
-pub among_begins : (file : DataFile) (old : List ℕ) → AddsRows old old (IsNamedAmong file [])
-among_begins file old = adds_none old (IsNamedAmong file []) (λ n h. none_is h.0 h.1)
-
 pub among_next : (file : DataFile) (old found new rows : List ℕ) (parts : List (List ℕ)) (part : List ℕ) → AddsRows old found (IsNamedAmong file parts) → ListsRows rows (IsNamedBy file part) → new ≡ found ++ rows
     → AddsRows old new (IsNamedAmong file (parts ++ part ∷ []))
 among_next file old found new rows parts part so_far lists e =

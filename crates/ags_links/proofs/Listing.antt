@@ -1,8 +1,8 @@
 -- The parent rows of each row, listed one look-up at a time.
-use Rattle.std.proofs.Common.{◌≡◌, ℕ, ◌+◌, ◌-◌, ◌<◌, ◌≤◌, List, [], ◌∷◌, ◌++◌, length, get_or, set, take, drop, map, refl, sym, ap, subst, ◌∙◌, arith, inl, inr, All, Contains, Vec}
+use Rattle.std.proofs.Common.{◌≡◌, ℕ, ◌+◌, ◌-◌, ◌<◌, List, [], ◌∷◌, ◌++◌, length, get_or, set, take, drop, map, refl, sym, ap, subst, ◌∙◌, arith, inl, inr, All, Contains, Vec}
 use Rattle.std.specs.declared.alloc.Global.{Global}
 use Rattle.std.proofs.lemmas.Bool.{cases_eq}
-use Rattle.std.proofs.lemmas.List.{get_or-set_same, get_or-set_other, length-map, length-set, length-take-le, take_all, take_more, take-map, drop-map}
+use Rattle.std.proofs.lemmas.List.{get_or-set_same, get_or-set_other, length-map, length-set, length-take-le, take_more, take-map, drop-map}
 use Rattle.std.proofs.lemmas.List.Elements.{Contains-append_left, Contains-push, Contains-push_cases}
 use Rattle.ags_rows.specs.declared.rows.Group.{Group}
 use Rattle.ags_rows.specs.Contents.{field_at}
@@ -15,7 +15,7 @@ use Rattle.ags_links.specs.declared.placed.PlacedRow.{PlacedRow}
 use Rattle.ags_rows.specs.Collecting.{At}
 use Rattle.ags_links.specs.KeyTexts.{key_text}
 use Rattle.ags_links.specs.Lookups.{Lookup, rows_between, IsSpanOf}
-use Rattle.ags_links.specs.ParentRows.{AreListed, AreParents, AreParentLists, AreSpansOf, HasUsers, IsAskedOf, IsLookupAt, IsParentList, IsParentSpan, part_of, text_at}
+use Rattle.ags_links.specs.ParentRows.{AreListed, AreParents, AreParentLists, AreSpansOf, HasUsers, IsAskedOf, IsLinkText, IsLookupAt, IsParentList, IsParentSpan, part_of, text_at}
 use Rattle.ags_links.specs.Placing.{IsPlaced, row_of}
 use Rattle.ags_links.proofs.Answering.{parents_listed}
 use Rattle.ags_links.proofs.Heading.{entries_at}
@@ -33,18 +33,10 @@ part_between lookup list span is =
 -- ---- the spans of the rows that use a look-up
 
 module _ (rows : List PlacedRow) (of_groups : List LinkPlaces) (lookup : Lookup) where
-  -- none yet
-  pub no_spans : (spans : List Span) → AreSpansOf rows of_groups lookup [] spans spans
-  no_spans spans = record {
-    size = refl;
-    noted = λ n row links span h. absurd (omega (arith, h.1));
-    kept = λ n d none. refl;
-  }
-
   -- that of one more row
-  pub spans_next : (users : List ℕ) (i n : ℕ) (old spans : List Span) (row : PlacedRow) (links : LinkPlaces) (span : Span) → i < length users → get_or users i 0 ≡ n → AreSpansOf rows of_groups lookup (take i users) old spans → At rows n row → At of_groups row.place links
-      → n < length spans → IsSpanOf lookup (text_at links.places.items row) span → AreSpansOf rows of_groups lookup (take (i + 1) users) old (set spans n span)
-  spans_next users i n old spans row links span lt is so_far at_row at_links below here = subst (λ us. AreSpansOf rows of_groups lookup us old (set spans n span)) (sym (take_more users i 0 lt ∙ ap (λ m. take i users ++ m ∷ []) is)) (record {
+  pub spans_next : (users : List ℕ) (i n : ℕ) (old spans : List Span) (text : List ℕ) (span : Span) → i < length users → get_or users i 0 ≡ n → AreSpansOf rows of_groups lookup (take i users) old spans → IsLinkText rows of_groups n text
+      → n < length spans → IsSpanOf lookup text span → AreSpansOf rows of_groups lookup (take (i + 1) users) old (set spans n span)
+  spans_next users i n old spans text span lt is so_far is_text below here = subst (λ us. AreSpansOf rows of_groups lookup us old (set spans n span)) (sym (take_more users i 0 lt ∙ ap (λ m. take i users ++ m ∷ []) is)) (record {
     size = length-set spans n span ∙ so_far.size;
     noted = noted;
     kept = λ m d none. get_or-set_other spans n m span d (λ e. none (subst (Contains (take i users ++ n ∷ [])) (sym e) (Contains-push (take i users) n))) ∙ so_far.kept m d (λ h. none (Contains-append_left (take i users) (n ∷ []) m h));
@@ -52,17 +44,12 @@ module _ (rows : List PlacedRow) (of_groups : List LinkPlaces) (lookup : Lookup)
     noted : (m : ℕ) (other : PlacedRow) (ks : LinkPlaces) (s : Span) → Contains (take i users ++ n ∷ []) m → At rows m other → At of_groups other.place ks → At (set spans n span) m s → IsSpanOf lookup (text_at ks.places.items other) s
     noted m other ks s h at_other at_ks at_s = elim (cases_eq m n) [
       | inl e ↦
-          let row_is : row ≡ other = one_at rows m row other (subst (λ j. At rows j row) (sym e) at_row) at_other in
-          let links_are : links ≡ ks = one_at of_groups other.place links ks (subst (λ (r : PlacedRow). At of_groups r.place links) row_is at_links) at_ks in
           let span_is : span ≡ s = sym (ap (λ j. get_or (set spans n span) j s) e ∙ get_or-set_same spans n span s below) ∙ at_s.1 in
-          subst (IsSpanOf lookup (text_at ks.places.items other)) span_is (subst (λ (k : LinkPlaces). IsSpanOf lookup (text_at k.places.items other) span) links_are (subst (λ r. IsSpanOf lookup (text_at links.places.items r) span) row_is here))
+          subst (IsSpanOf lookup (text_at ks.places.items other)) span_is (subst (λ t. IsSpanOf lookup t span) (is_text other ks (subst (λ j. At rows j other) e at_other) at_ks) here)
       | inr apart ↦
           let was : Contains (take i users) m = elim (Contains-push_cases (take i users) n m h) [ inl earlier ↦ earlier | inr last ↦ absurd (apart (sym last)) ] in
           so_far.noted m other ks s was at_other at_ks (omega (arith, at_s.0, length-set spans n span), sym (get_or-set_other spans n m span s apart) ∙ at_s.1)
     ]
-
-  pub all_spans : (users : List ℕ) (i : ℕ) (old spans : List Span) → length users ≤ i → AreSpansOf rows of_groups lookup (take i users) old spans → AreSpansOf rows of_groups lookup users old spans
-  all_spans users i old spans le so_far = subst (λ us. AreSpansOf rows of_groups lookup us old spans) (take_all i users le) so_far
 
 -- ---- the rows of the look-ups, one look-up at a time
 
@@ -109,9 +96,6 @@ module _ (rows : List PlacedRow) (of_groups : List LinkPlaces) where
           subst (λ l. IsSpanOf l (text_at ks.places.items row) span) last.1
           (are.noted n row ks span ((uses n).1 (row, ks, record { stands = at_row; grouped = at_ks; uses = last.0 ∙ count })) at_row at_ks at_span)
     ]
-
-  pub all_listed : (links : List ParentLinks) (i : ℕ) (lists : List (Vec ℕ Global)) (spans : List Span) → length links ≤ i → AreListed rows of_groups (take i links) lists spans → AreListed rows of_groups links lists spans
-  all_listed links i lists spans le so_far = subst (λ ls. AreListed rows of_groups ls lists spans) (take_all i links le) so_far
 
 -- ---- all groups
 

@@ -1,22 +1,12 @@
 -- Steps beside a row, looked at one after another.
-use Rattle.std.proofs.Common.{◌≡◌, ℕ, ◌+◌, ◌<◌, Bool, true, false, List, [], ◌∷◌, ◌++◌, length, get_or, set, take, refl, sym, subst, arith, inl, inr, Contains}
-use Rattle.std.proofs.lemmas.List.Elements.{All-push, All-nil, All-weaker, Contains-push, Contains-append_left, Contains-push_cases}
+use Rattle.std.proofs.Common.{◌≡◌, ℕ, ◌+◌, ◌<◌, Bool, true, false, List, [], ◌∷◌, ◌++◌, length, get_or, set, take, sym, subst, arith, inl, inr, Contains}
+use Rattle.std.proofs.lemmas.List.Elements.{All-push, All-weaker, Contains-push, Contains-append_left, Contains-push_cases}
 use Rattle.std.proofs.lemmas.List.{take_more}
 use Rattle.std.proofs.lemmas.List.Sums.{sum_by_push}
 use Rattle.ags_links.specs.Walks.{IsMarked}
 use Rattle.ags_links.specs.Work.{Looked}
 use Rattle.ags_links.proofs.Marks.{mark_grows, mark_cases, mark_same}
 use Rattle.ags_links.proofs.Weights.{weigh_set}
-
-pub looks_begin : (marks : List Bool) (work : List ℕ) → Looked [] marks marks work work
-looks_begin marks work = record {
-  grows = λ r h. h;
-  each = All-nil (IsMarked marks);
-  only = λ r h. inl h;
-  work_grows = λ r h. h;
-  work_only = λ r h. inl h;
-  balance = λ w. refl;
-}
 
 -- a step to a marked row
 look_over : (seen : List ℕ) (t : ℕ) (old marks : List Bool) (before work : List ℕ) → Looked seen old marks before work → IsMarked marks t → Looked (seen ++ t ∷ []) old marks before work

@@ -1,7 +1,7 @@
 -- The marked rows below a number.
-use Rattle.std.proofs.Common.{◌≡◌, ℕ, ◌+◌, ◌<◌, ◌≤◌, Bool, true, false, List, [], ◌∷◌, ◌++◌, length, get_or, take, refl, sym, subst, ap, ◌∙◌, arith, inl, inr, Contains, sum_by, below_more}
+use Rattle.std.proofs.Common.{◌≡◌, ℕ, ◌+◌, ◌<◌, Bool, true, false, List, [], ◌∷◌, ◌++◌, length, get_or, take, sym, subst, ap, ◌∙◌, arith, inl, inr, Contains, sum_by, below_more}
 use Rattle.std.proofs.lemmas.Bool.{true≢false}
-use Rattle.std.proofs.lemmas.List.{take_more, take_all, length-take-le}
+use Rattle.std.proofs.lemmas.List.{take_more, length-take-le}
 use Rattle.std.proofs.lemmas.List.Elements.{Contains-push, Contains-append_left, Contains-push_cases}
 use Rattle.std.proofs.lemmas.List.Sums.{sum_by_push}
 use Rattle.ags_links.specs.Walks.{IsMarked}
@@ -12,13 +12,6 @@ pub record RowsSoFar (marks : List Bool) (i : ℕ) (work : List ℕ) : Type 0 wh
   pub marked : (r : ℕ) → Contains work r → IsMarked marks r
   pub all : (r : ℕ) → r < i → IsMarked marks r → Contains work r
   pub weight : (w : ℕ → ℕ) → sum_by w work ≡ weigh w (take i marks)
-
-pub rows_begin : (marks : List Bool) → RowsSoFar marks 0 []
-rows_begin marks = record {
-  marked = λ r h. absurd (omega (arith, h.1));
-  all = λ r lt h. absurd (omega arith);
-  weight = λ w. refl;
-}
 
 weigh_next : (w : ℕ → ℕ) (marks : List Bool) (i : ℕ) (m : Bool) → i < length marks → get_or marks i false ≡ m → weigh w (take (i + 1) marks) ≡ weigh w (take i marks ++ m ∷ [])
 weigh_next w marks i m lt is = ap (weigh w) (take_more marks i false lt) ∙ ap (λ b. weigh w (take i marks ++ b ∷ [])) is
@@ -38,6 +31,3 @@ rows_more marks i work so_far lt is = record {
       let len : 0 + length (take i marks) ≡ i = omega (arith, length-take-le i marks (omega arith)) in
       omega (arith, so_far.weight w, weigh_next w marks i true lt is, weigh_from_push w 0 (take i marks) true, ap w len, sum_by_push w work i);
 }
-
-pub rows_end : (marks : List Bool) (i : ℕ) (work : List ℕ) → RowsSoFar marks i work → length marks ≤ i → (w : ℕ → ℕ) → sum_by w work ≡ weigh w marks
-rows_end marks i work so_far le w = so_far.weight w ∙ ap (weigh w) (take_all i marks le)

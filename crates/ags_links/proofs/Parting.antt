@@ -21,12 +21,6 @@ use Rattle.ags_links.proofs.Members.{contains_map, map_contains, contains_filter
 abbrev pub ArePartsAt : ℕ → DataRow → List (Option ℕ) → List (List ℕ) → Type 0
 ArePartsAt separator row places parts = (part : List ℕ) → Contains parts part ↔ IsPartAmong separator row places part
 
-pub no_place : (separator : ℕ) (row : DataRow) (parts : List (List ℕ)) → parts ≡ [] → ArePartsAt separator row [] parts
-no_place separator row parts e part = (
-  λ h. let k = subst (λ ps. Contains ps part) e h in absurd (omega (arith, k.1)),
-  λ h. absurd (omega (arith, h.1.1)),
-)
-
 pub next_place : (separator : ℕ) (row : DataRow) (places : List (Option ℕ)) (old new : List (List ℕ)) (place : Option ℕ) → ArePartsAt separator row places old → (field_at row.fields place ≡ [] → ⊥)
     → new ≡ old ++ parts_at separator (field_at row.fields place) → ArePartsAt separator row (places ++ place ∷ []) new
 next_place separator row places old new place so_far some e part = (
@@ -75,12 +69,6 @@ linked_part separators row links part e = (
 pub record TakesFirst (texts : List (List ℕ)) (next : ℕ) (once : List (List ℕ)) : Type 0 where
   pub only : (text : List ℕ) → Contains once text → Contains texts text
   pub each : (text : List ℕ) (place : ℕ) → place_in texts text ≡ Some place → place < next → Contains once text
-
-pub none_taken : (texts once : List (List ℕ)) → once ≡ [] → TakesFirst texts 0 once
-none_taken texts once e = record {
-  only = λ text h. let k = subst (λ ts. Contains ts text) e h in absurd (omega (arith, k.1));
-  each = λ text place is lt. absurd (omega (arith, lt));
-}
 
 pub first_taken : (texts once new : List (List ℕ)) (i : ℕ) (text : List ℕ) → TakesFirst texts i once → Contains texts text → (place_in texts text ≡ Some i) → new ≡ once ++ text ∷ [] → TakesFirst texts (i + 1) new
 first_taken texts once new i text so_far stands is e = record {

@@ -8,13 +8,12 @@ use Rattle.ags_rows.specs.Contents.{place_in}
 use Rattle.ags_rows.specs.declared.rows.Group.{Group}
 use Rattle.ags_dict.specs.Entries.{Entries, parent_of}
 use Rattle.ags_links.specs.declared.families.Family.{Family}
-use Rattle.ags_links.specs.Lookups.{Lookup}
+use Rattle.ags_links.specs.Lookups.{Lookup, Finds, FindsAsked, found}
 use Rattle.ags_links.specs.declared.parents.ParentLinks.{ParentLinks}
 use Rattle.ags_links.specs.declared.parents.LinkPlaces.{LinkPlaces}
 use Rattle.ags_rows.specs.Collecting.{At}
 use Rattle.ags_links.specs.DataRows.{DataRow}
 use Rattle.ags_links.specs.Families.{AreKept, AreFamilies, HasText, HasGroupName, HasEntries, HasAmong}
-use Rattle.ags_links.specs.Lookups.{Finds, FindsAsked, found}
 use Rattle.ags_links.specs.ParentRows.{AreLinkHeadings, AreParentLinks, AreLookups, AreNumbers, HasParentEntries, IsParentLinks, IsAskedOf, IsParentIndex, IsPlacedAt, AreParents, ParentLinksTo, link_names, texts_in}
 use Rattle.ags_links.specs.Placing.{row_of}
 use Rattle.ags_links.specs.declared.placed.PlacedRow.{PlacedRow}

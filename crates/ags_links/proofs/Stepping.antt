@@ -121,12 +121,6 @@ parents_alone file n first second third parents none links files lists empty =
 abbrev pub StepsBefore : DataFile → ℕ → ℕ → ℕ → Type 0
 StepsBefore file next n m = (n < next) × StepAt file n m
 
-pub no_steps : (steps : List (ℕ × ℕ)) (file : DataFile) → steps ≡ [] → ListsSteps steps (StepsBefore file 0)
-no_steps steps file e = record {
-  sorted = λ k lt. let none : length steps ≡ 0 = ap length e in absurd (omega arith);
-  exact = λ n m. (λ h. let none : length steps ≡ 0 = ap length e in absurd (omega (arith, h.1)), λ h. absurd (omega (arith, h.0)));
-}
-
 abbrev from_row : ℕ → ℕ → ℕ × ℕ
 from_row n m = (n, m)
 

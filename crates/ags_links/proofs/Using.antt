@@ -19,13 +19,6 @@ use Rattle.ags_links.proofs.RowLemmas.{one_at, some_at}
 abbrev pub UsersBefore : List PlacedRow → List LinkPlaces → ℕ → List (Vec ℕ Global) → Type 0
 UsersBefore rows of_groups i users = (l : ℕ) (d : Vec ℕ Global) → l < length users → (n : ℕ) → Contains (get_or users l d).items n ↔ ((n < i) × IsUser rows of_groups l n)
 
--- none yet
-pub no_users : (rows : List PlacedRow) (of_groups : List LinkPlaces) (users : List (Vec ℕ Global)) → All (λ (v : Vec ℕ Global). v.items ≡ []) users → UsersBefore rows of_groups 0 users
-no_users rows of_groups users empty l d lt n = (
-  λ h. absurd (omega (arith, (subst (λ ns. Contains ns n) (empty l d lt) h).1)),
-  λ h. absurd (omega (arith, h.0)),
-)
-
 -- all of them
 pub all_users : (rows : List PlacedRow) (of_groups : List LinkPlaces) (i : ℕ) (users : List (Vec ℕ Global)) → length rows ≤ i → UsersBefore rows of_groups i users → HaveUsers rows of_groups users
 all_users rows of_groups i users le so_far l d lt n = (

@@ -7,7 +7,7 @@ use Rattle.ags_text.specs.Names.{is_definition}
 use Rattle.ags_dict.specs.Entries.{Entries}
 use Rattle.ags_links.specs.declared.families.Family.{Family}
 use Rattle.ags_links.specs.declared.index.Targets.{Targets}
-use Rattle.ags_links.specs.Lookups.{Lookup}
+use Rattle.ags_links.specs.Lookups.{Lookup, Finds}
 use Rattle.ags_links.specs.declared.lookup.Span.{Span}
 use Rattle.ags_links.specs.declared.parents.ParentLists.{ParentLists}
 use Rattle.ags_links.specs.declared.placed.PlacedRow.{PlacedRow}
@@ -16,7 +16,6 @@ use Rattle.ags_rows.specs.Collecting.{At}
 use Rattle.ags_links.specs.DataRows.{DataFile, DataRow, data_rows, RowsRelate}
 use Rattle.ags_links.specs.Families.{HasText, HasKeyText, HasFileSet, AreFamilies}
 use Rattle.ags_links.specs.Keys.{IsFirstOfKey, AreFirstsOfKeys}
-use Rattle.ags_links.specs.Lookups.{Finds}
 use Rattle.ags_links.specs.ParentRows.{AreParentLists}
 use Rattle.ags_links.specs.Parents.{IsParentRow}
 use Rattle.ags_links.specs.Placing.{IsPlaced, row_of, ListsTexts}

@@ -8,7 +8,7 @@ use Rattle.ags_rows.specs.Contents.{place_in}
 use Rattle.ags_rows.specs.declared.rows.Group.{Group}
 use Rattle.ags_dict.specs.Entries.{Entries, keys_of, parent_of}
 use Rattle.ags_links.specs.declared.families.Family.{Family}
-use Rattle.ags_links.specs.Lookups.{Lookup}
+use Rattle.ags_links.specs.Lookups.{Lookup, FindsAsked, found, IsSpanOf}
 use Rattle.ags_links.specs.declared.parents.HeadingPlaces.{HeadingPlaces}
 use Rattle.ags_links.specs.declared.parents.ParentLinks.{ParentLinks}
 use Rattle.ags_links.specs.declared.parents.LinkPlaces.{LinkPlaces}
@@ -19,7 +19,6 @@ use Rattle.ags_rows.specs.Collecting.{At}
 use Rattle.ags_links.specs.DataRows.{DataRow, RowsRelate, ListsRows}
 use Rattle.ags_links.specs.Families.{AreKept, HasText, HasEntries, HasAmong}
 use Rattle.ags_links.specs.KeyTexts.{key_text}
-use Rattle.ags_links.specs.Lookups.{FindsAsked, found, IsSpanOf}
 use Rattle.ags_links.specs.Parents.{IsParentRow}
 use Rattle.ags_links.specs.Placing.{row_of, fields_at}
 
@@ -63,6 +62,12 @@ AreNumbers count links = All (λ n. n < count) links.rows.now × IsStrictlyIncre
 -- the row's entries at the places, as one text
 abbrev pub text_at : List (Option ℕ) → PlacedRow → List ℕ
 text_at places row = key_text (fields_at places row)
+
+-- the text is row n's entries under its link headings
+abbrev pub IsLinkText : List PlacedRow → List LinkPlaces → ℕ → List ℕ → Type 0
+IsLinkText rows of_groups n text =
+    (row : PlacedRow) (links : LinkPlaces) → At rows n row → At of_groups row.place links
+    → text ≡ text_at links.places.items row
 
 -- row n has its parent rows in this look-up
 pub record IsUserOf (rows : List PlacedRow) (of_groups : List LinkPlaces) (lookup n : ℕ) (row : PlacedRow)

@@ -2,44 +2,40 @@
 
 ghost use Rattle.std.specs.Prelude.{◌≡◌, All, IfOk, IfSome, IsTrue, length};
 ghost use Rattle.ags_links.specs.EntryLists.{IsEntryList, AgreesAt};
-ghost use Rattle.ags_links.specs.Families.{HasFamily};
 ghost use Rattle.ags_links.specs.ParentRows.{text_at, AreNumbers, AreCandidatesFor};
 ghost use Rattle.ags_links.specs.Placing.{HaveEqualEntries};
 
 use crate::entry_lists::{EntryLists, leading_entries};
-use crate::families::{Family, heading_places};
+use crate::families::heading_places;
+use crate::filed_rows::FiledRows;
 use crate::parents::ParentLinks;
 use crate::placed::{PlacedRow, field};
-use ags_dict::Dictionary;
-use std::alloc::{AllocError, Global};
+use std::alloc::AllocError;
 
 /// Those of the rows of the parent group that may be parent rows of this row: those that agree with it, and those of
 /// other groups of that name. Where there is a list of first entries, rows with another one are not looked at.
 pub(crate) fn candidates<'s>(
-    alloc: Global,
-    dictionary: &Dictionary,
-    rows: &[PlacedRow<'_, '_>],
-    families: &[Family<'_, '_>],
+    filed: &FiledRows<'_, '_, '_, '_>,
     links: &ParentLinks<'_, 's>,
     lists: &EntryLists<'_, 's>,
     row: &PlacedRow<'_, '_>,
     places: &[Option<usize>],
 ) -> Result<Vec<u32>, AllocError>
-    requires kept { All (HasFamily dictionary.now families.now) rows.now }
-    requires numbers { AreNumbers (length rows.now) links.now }
-    requires lists { All (IsEntryList rows.now) lists.now.lists.items }
-    ensures { IfOk result (λ chosen. AreCandidatesFor rows.now links.now (text_at places.now row.now) chosen.items) }
+    requires numbers { AreNumbers (length filed.now.rows.now) links.now }
+    requires lists { All (IsEntryList filed.now.rows.now) lists.now.lists.items }
+    ensures { IfOk result (λ chosen.
+        AreCandidatesFor filed.now.rows.now links.now (text_at places.now row.now) chosen.items) }
 {
     let numbers = links.rows;
     if numbers.is_empty() || places.is_empty() {
-        return Vec::from_slice(alloc, numbers);
+        return Vec::from_slice(filed.alloc, numbers);
     }
-    let start = numbers[0] as usize;
-    let first = &rows[start];
-    let stood = heading_places(alloc, &families[first.place].headings, &links.headings)?;
+    let rows = filed.rows;
+    let (first, family) = filed.row(numbers[0] as usize);
+    let stood = heading_places(filed.alloc, &family.headings, &links.headings)?;
     let entries = leading_entries(rows, lists, links);
     let asked = field(row, places[0]);
-    let mut chosen = Vec::new(alloc);
+    let mut chosen = Vec::new(filed.alloc);
     for (place, number) in numbers.iter().enumerate() {
         let other = &rows[*number as usize];
         if may_have(entries, place, asked)

@@ -4,14 +4,12 @@
 
 ghost use Rattle.std.specs.Prelude.{◌≡◌, ◌<◌, All, IfOk, OnOk, IfSome, IsTrue, length};
 ghost use Rattle.ags_links.specs.EntryLists.{IsEntryList, AreLeadingEntries};
-ghost use Rattle.ags_links.specs.Families.{HasFamily};
 ghost use Rattle.ags_links.specs.ParentRows.{AreNumbers};
 
-use crate::families::Family;
+use crate::filed_rows::FiledRows;
 use crate::parents::ParentLinks;
 use crate::placed::{PlacedRow, field};
-use ags_dict::Dictionary;
-use std::alloc::{AllocError, Global};
+use std::alloc::AllocError;
 use std::collections::BTreeMap;
 
 /// Some rows, and the entry of each under a heading.
@@ -36,26 +34,22 @@ const ENTRIES_A_ROW: usize = 4;
 
 /// The lists for the look-ups that one row uses.
 pub(crate) fn entry_lists<'l, 's>(
-    alloc: Global,
-    dictionary: &Dictionary,
-    rows: &[PlacedRow<'s, '_>],
-    families: &[Family<'_, '_>],
+    filed: &FiledRows<'_, 's, '_, '_>,
     links: &[ParentLinks<'l, 's>],
     users: &[Vec<u32>],
 ) -> Result<EntryLists<'l, 's>, AllocError>
-    requires kept { All (HasFamily dictionary.now families.now) rows.now }
-    requires numbers { All (AreNumbers (length rows.now)) links.now }
+    requires numbers { All (AreNumbers (length filed.now.rows.now)) links.now }
     requires size { length users.now ≡ length links.now }
-    ensures { IfOk result (λ lists. All (IsEntryList rows.now) lists.lists.items) }
+    ensures { IfOk result (λ lists. All (IsEntryList filed.now.rows.now) lists.lists.items) }
 {
     let mut lists = EntryLists {
-        lists: Vec::new(alloc),
-        places: BTreeMap::new(alloc),
-        room: rows.len().saturating_mul(ENTRIES_A_ROW),
+        lists: Vec::new(filed.alloc),
+        places: BTreeMap::new(filed.alloc),
+        room: filed.rows.len().saturating_mul(ENTRIES_A_ROW),
     };
     for (place, of_group) in links.iter().enumerate() {
         if users[place].len() == 1 {
-            add_list(alloc, dictionary, rows, families, of_group, &mut lists)?;
+            add_list(filed, of_group, &mut lists)?;
         }
     }
     Ok(lists)
@@ -63,17 +57,13 @@ pub(crate) fn entry_lists<'l, 's>(
 
 /// Adds the list for these links, unless there is one, it has no room, or they have no rows or no heading.
 fn add_list<'l, 's>(
-    alloc: Global,
-    dictionary: &Dictionary,
-    rows: &[PlacedRow<'s, '_>],
-    families: &[Family<'_, '_>],
+    filed: &FiledRows<'_, 's, '_, '_>,
     links: &ParentLinks<'l, 's>,
     lists: &mut EntryLists<'l, 's>,
 ) -> Result<(), AllocError>
-    requires kept { All (HasFamily dictionary.now families.now) rows.now }
-    requires numbers { AreNumbers (length rows.now) links.now }
-    requires lists { All (IsEntryList rows.now) lists.old.lists.items }
-    ensures { OnOk result (All (IsEntryList rows.now) lists.new.lists.items) }
+    requires numbers { AreNumbers (length filed.now.rows.now) links.now }
+    requires lists { All (IsEntryList filed.now.rows.now) lists.old.lists.items }
+    ensures { OnOk result (All (IsEntryList filed.now.rows.now) lists.new.lists.items) }
 {
     let numbers = links.rows;
     if numbers.is_empty() || links.headings.is_empty() {
@@ -84,7 +74,7 @@ fn add_list<'l, 's>(
     if lists.room < numbers.len() || lists.places.contains_key(&key) {
         return Ok(());
     }
-    let list = entry_list(alloc, dictionary, rows, families, numbers, heading)?;
+    let list = entry_list(filed, numbers, heading)?;
     lists.places.insert(key, lists.lists.len())?;
     lists.lists.push(list)?;
     lists.room -= numbers.len();
@@ -93,22 +83,17 @@ fn add_list<'l, 's>(
 
 /// The entries of these rows under the heading.
 fn entry_list<'l, 's>(
-    alloc: Global,
-    dictionary: &Dictionary,
-    rows: &[PlacedRow<'s, '_>],
-    families: &[Family<'_, '_>],
+    filed: &FiledRows<'_, 's, '_, '_>,
     numbers: &'l [u32],
     heading: &'s [u8],
 ) -> Result<EntryList<'l, 's>, AllocError>
-    requires kept { All (HasFamily dictionary.now families.now) rows.now }
-    requires below { All (λ n. n < length rows.now) numbers.now }
-    ensures { IfOk result (IsEntryList rows.now) }
+    requires { All (λ n. n < length filed.now.rows.now) numbers.now }
+    ensures { IfOk result (IsEntryList filed.now.rows.now) }
 {
-    let mut entries = Vec::with_capacity(alloc, numbers.len())?;
+    let mut entries = Vec::with_capacity(filed.alloc, numbers.len())?;
     for number in numbers {
-        let row = &rows[*number as usize];
-        let place = families[row.place].headings.find(heading);
-        entries.push(field(row, place))?;
+        let (row, family) = filed.row(*number as usize);
+        entries.push(field(row, family.headings.find(heading)))?;
     }
     Ok(EntryList {
         rows: numbers,

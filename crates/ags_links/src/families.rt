@@ -7,6 +7,7 @@ ghost use Rattle.ags_links.specs.Lookups.{Finds};
 ghost use Rattle.ags_links.specs.Families.{HasText, HasGroupName, HasKeyText, HasFileSet, HasFamily, IsFamily, AreFamilies, record_links};
 ghost use Rattle.ags_links.specs.Placing.{IsPlaced, row_of};
 
+use crate::filed_rows::FiledRows;
 use crate::lookup::{Lookup, first_rows, rows_by_text};
 use crate::placed::{PlacedRow, field};
 use crate::texts::push_group_entries;
@@ -104,48 +105,31 @@ fn record_links(
     Ok(places)
 }
 
-/// What is kept for the row's group.
-pub(crate) fn family_at<'l, 's, 'd>(
-    dictionary: &Dictionary,
-    families: &'l [Family<'s, 'd>],
-    row: &PlacedRow<'_, '_>,
-) -> &'l Family<'s, 'd>
-    requires { HasFamily dictionary.now families.now row.now }
-    ensures { IsFamily dictionary.now row.now.group.now result.now }
-{
-    &families[row.place]
-}
-
 /// The rows by the names of their groups.
-pub(crate) fn rows_by_group(alloc: Global, rows: &[PlacedRow<'_, '_>]) -> Result<Lookup, AllocError>
-    requires { length rows.now < 2 ^ 32 }
-    ensures { IfOk result (λ lookup. Finds lookup (HasText (map row_of rows.now) HasGroupName)) }
+pub(crate) fn rows_by_group(filed: &FiledRows<'_, '_, '_, '_>) -> Result<Lookup, AllocError>
+    ensures { IfOk result (λ lookup. Finds lookup (HasText (map row_of filed.now.rows.now) HasGroupName)) }
 {
-    let mut pairs = Vec::with_capacity(alloc, rows.len())?;
+    let rows = filed.rows;
+    let mut pairs = Vec::with_capacity(filed.alloc, rows.len())?;
     for (number, row) in rows.iter().enumerate() {
         let group = row.group;
-        let name = Vec::from_slice(alloc, group.name.as_slice())?;
+        let name = Vec::from_slice(filed.alloc, group.name.as_slice())?;
         pairs.push((name, number as u32))?;
     }
-    rows_by_text(alloc, pairs)
+    rows_by_text(filed.alloc, pairs)
 }
 
 /// The rows by key and by file set.
-pub(crate) fn keyed_rows(
-    alloc: Global,
-    dictionary: &Dictionary,
-    rows: &[PlacedRow<'_, '_>],
-    families: &[Family<'_, '_>],
-) -> Result<KeyedRows, AllocError>
-    requires few { length rows.now < 2 ^ 32 }
-    requires kept { All (HasFamily dictionary.now families.now) rows.now }
-    ensures keyed { IfOk result (λ kept. Finds kept.by_key (HasText (map row_of rows.now) (HasKeyText dictionary.now))) }
-    ensures firsts { IfOk result (λ kept. AreFirstsOfKeys (map row_of rows.now) dictionary.now kept.firsts.items) }
-    ensures filed { IfOk result (λ kept. Finds kept.by_file_set (HasText (map row_of rows.now) HasFileSet)) }
+pub(crate) fn keyed_rows(filed: &FiledRows<'_, '_, '_, '_>) -> Result<KeyedRows, AllocError>
+    ensures keyed { IfOk result (λ kept.
+        Finds kept.by_key (HasText (map row_of filed.now.rows.now) (HasKeyText filed.now.dictionary.now))) }
+    ensures firsts { IfOk result (λ kept.
+        AreFirstsOfKeys (map row_of filed.now.rows.now) filed.now.dictionary.now kept.firsts.items) }
+    ensures filed { IfOk result (λ kept. Finds kept.by_file_set (HasText (map row_of filed.now.rows.now) HasFileSet)) }
 {
-    let by_key = rows_by_key(alloc, dictionary, rows, families)?;
-    let firsts = firsts_of_keys(alloc, dictionary, rows, &by_key)?;
-    let by_file_set = rows_by_file_set(alloc, dictionary, rows, families)?;
+    let by_key = rows_by_key(filed)?;
+    let firsts = firsts_of_keys(filed, &by_key)?;
+    let by_file_set = rows_by_file_set(filed)?;
     Ok(KeyedRows {
         by_key,
         firsts,
@@ -154,61 +138,45 @@ pub(crate) fn keyed_rows(
 }
 
 /// The rows by their groups and key entries.
-fn rows_by_key(
-    alloc: Global,
-    dictionary: &Dictionary,
-    rows: &[PlacedRow<'_, '_>],
-    families: &[Family<'_, '_>],
-) -> Result<Lookup, AllocError>
-    requires few { length rows.now < 2 ^ 32 }
-    requires kept { All (HasFamily dictionary.now families.now) rows.now }
-    ensures { IfOk result (λ lookup. Finds lookup (HasText (map row_of rows.now) (HasKeyText dictionary.now))) }
+fn rows_by_key(filed: &FiledRows<'_, '_, '_, '_>) -> Result<Lookup, AllocError>
+    ensures { IfOk result (λ lookup.
+        Finds lookup (HasText (map row_of filed.now.rows.now) (HasKeyText filed.now.dictionary.now))) }
 {
-    let mut pairs = Vec::with_capacity(alloc, rows.len())?;
-    let mut entries = Vec::new(alloc);
-    for (number, row) in rows.iter().enumerate() {
+    let mut pairs = Vec::with_capacity(filed.alloc, filed.rows.len())?;
+    let mut entries = Vec::new(filed.alloc);
+    for number in 0..filed.rows.len() {
+        let (row, family) = filed.row(number);
         entries.clear();
-        push_group_entries(&mut entries, row, &families[row.place].keys)?;
-        let text = Vec::from_slice(alloc, &entries)?;
+        push_group_entries(&mut entries, row, &family.keys)?;
+        let text = Vec::from_slice(filed.alloc, &entries)?;
         pairs.push((text, number as u32))?;
     }
-    rows_by_text(alloc, pairs)
+    rows_by_text(filed.alloc, pairs)
 }
 
 /// For each row the first row of its group with an equal key (Rule 10a).
-fn firsts_of_keys(
-    alloc: Global,
-    dictionary: &Dictionary,
-    rows: &[PlacedRow<'_, '_>],
-    by_key: &Lookup,
-) -> Result<Vec<u32>, AllocError>
-    requires { Finds by_key.now (HasText (map row_of rows.now) (HasKeyText dictionary.now)) }
-    ensures { IfOk result (λ firsts. AreFirstsOfKeys (map row_of rows.now) dictionary.now firsts.items) }
+fn firsts_of_keys(filed: &FiledRows<'_, '_, '_, '_>, by_key: &Lookup) -> Result<Vec<u32>, AllocError>
+    requires { Finds by_key.now (HasText (map row_of filed.now.rows.now) (HasKeyText filed.now.dictionary.now)) }
+    ensures { IfOk result (λ firsts.
+        AreFirstsOfKeys (map row_of filed.now.rows.now) filed.now.dictionary.now firsts.items) }
 {
     // `first_rows` speaks of texts, this of keys; the proof goes by the list's name
-    let firsts = first_rows(alloc, by_key, rows.len())?;
+    let firsts = first_rows(filed.alloc, by_key, filed.rows.len())?;
     Ok(firsts)
 }
 
 /// The rows of FILE by their FILE_FSET.
-fn rows_by_file_set(
-    alloc: Global,
-    dictionary: &Dictionary,
-    rows: &[PlacedRow<'_, '_>],
-    families: &[Family<'_, '_>],
-) -> Result<Lookup, AllocError>
-    requires few { length rows.now < 2 ^ 32 }
-    requires kept { All (HasFamily dictionary.now families.now) rows.now }
-    ensures { IfOk result (λ lookup. Finds lookup (HasText (map row_of rows.now) HasFileSet)) }
+fn rows_by_file_set(filed: &FiledRows<'_, '_, '_, '_>) -> Result<Lookup, AllocError>
+    ensures { IfOk result (λ lookup. Finds lookup (HasText (map row_of filed.now.rows.now) HasFileSet)) }
 {
-    let mut pairs = Vec::new(alloc);
-    for (number, row) in rows.iter().enumerate() {
+    let mut pairs = Vec::new(filed.alloc);
+    for number in 0..filed.rows.len() {
+        let (row, family) = filed.row(number);
         let group = row.group;
         if group.name.as_slice() == b"FILE".as_slice() {
-            let file_set = field(row, families[row.place].file_set);
-            let text = Vec::from_slice(alloc, file_set)?;
+            let text = Vec::from_slice(filed.alloc, field(row, family.file_set))?;
             pairs.push((text, number as u32))?;
         }
     }
-    rows_by_text(alloc, pairs)
+    rows_by_text(filed.alloc, pairs)
 }

@@ -5,6 +5,7 @@ ghost use Rattle.std.specs.List.Sorted.{IsStrictlyIncreasing};
 ghost use Rattle.ags_rows.specs.Contents.{contents_of};
 
 use crate::families::{Family, families, keyed_rows};
+use crate::filed_rows::FiledRows;
 use crate::listed_parents::listed_parents;
 use crate::lookup::{Lookup, Span, rows_with};
 use crate::parents::{ParentLists, part_of};
@@ -93,8 +94,14 @@ impl<'s, 'f, 'd> Index<'s, 'f, 'd> {
         let groups = scan.groups();
         let rows = place_rows(alloc, scan)?;
         let families = families(alloc, groups, dictionary, &rows)?;
-        let listed = listed_parents(alloc, groups, dictionary, &rows, &families)?;
-        let keyed = keyed_rows(alloc, dictionary, &rows, &families)?;
+        let filed = FiledRows {
+            alloc,
+            dictionary,
+            rows: &rows,
+            families: &families,
+        };
+        let listed = listed_parents(&filed, groups)?;
+        let keyed = keyed_rows(&filed)?;
         Ok(Index {
             alloc,
             groups,

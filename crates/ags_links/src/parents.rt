@@ -12,12 +12,13 @@ ghost use Rattle.ags_links.specs.Placing.{row_of, ListsTexts};
 
 use crate::candidates::candidates;
 use crate::entry_lists::EntryLists;
-use crate::families::{Family, family_at, heading_places};
+use crate::families::{Family, heading_places};
+use crate::filed_rows::FiledRows;
+use crate::linked_rows::LinkedRows;
 use crate::lists::empty_lists;
 use crate::lookup::{Lookup, Span, rows_by_text, rows_with};
 use crate::placed::PlacedRow;
 use crate::texts::{names_text, push_entries};
-use ags_dict::Dictionary;
 use ags_rows::{Group, Places};
 use std::alloc::{AllocError, Global};
 
@@ -54,57 +55,43 @@ pub(crate) struct ParentLists {
 
 /// The links of each group.
 pub(crate) fn all_parent_links<'l, 's>(
-    alloc: Global,
+    filed: &FiledRows<'_, 's, '_, '_>,
     groups: &[Group<'_>],
-    dictionary: &Dictionary,
-    rows: &[PlacedRow<'_, '_>],
-    families: &[Family<'s, '_>],
     by_group: &'l Lookup,
 ) -> Result<Vec<ParentLinks<'l, 's>>, AllocError>
-    requires kept { All (HasFamily dictionary.now families.now) rows.now }
-    requires families { AreFamilies dictionary.now groups.now families.now }
-    requires by_group { Finds by_group.now (HasText (map row_of rows.now) HasGroupName) }
-    ensures { IfOk result (λ links. AreParentLinks dictionary.now by_group.now groups.now links.items) }
+    requires families { AreFamilies filed.now.dictionary.now groups.now filed.now.families.now }
+    requires by_group { Finds by_group.now (HasText (map row_of filed.now.rows.now) HasGroupName) }
+    ensures { IfOk result (λ links. AreParentLinks filed.now.dictionary.now by_group.now groups.now links.items) }
 {
-    let mut links = Vec::new(alloc);
+    let families = filed.families;
+    let mut links = Vec::new(filed.alloc);
     for (place, group) in groups.iter().enumerate() {
-        links.push(parent_links_of(
-            alloc,
-            group,
-            dictionary,
-            rows,
-            families,
-            &families[place],
-            by_group,
-        )?)?;
+        links.push(parent_links_of(filed, group, &families[place], by_group)?)?;
     }
     Ok(links)
 }
 
 /// The rows of a group's parent group, and its link headings.
 fn parent_links_of<'l, 's>(
-    alloc: Global,
+    filed: &FiledRows<'_, '_, '_, '_>,
     group: &Group<'_>,
-    dictionary: &Dictionary,
-    rows: &[PlacedRow<'_, '_>],
-    families: &[Family<'_, '_>],
     family: &Family<'s, '_>,
     by_group: &'l Lookup,
 ) -> Result<ParentLinks<'l, 's>, AllocError>
-    requires kept { All (HasFamily dictionary.now families.now) rows.now }
-    requires family { IsFamily dictionary.now group.now family.now }
-    requires by_group { Finds by_group.now (HasText (map row_of rows.now) HasGroupName) }
-    ensures { IfOk result (IsParentLinks dictionary.now by_group.now group.now) }
+    requires family { IsFamily filed.now.dictionary.now group.now family.now }
+    requires by_group { Finds by_group.now (HasText (map row_of filed.now.rows.now) HasGroupName) }
+    ensures { IfOk result (IsParentLinks filed.now.dictionary.now by_group.now group.now) }
 {
+    let dictionary = filed.dictionary;
     let Some(parent) = dictionary.parent(group.name.as_slice()) else {
         return Ok(ParentLinks {
             rows: &[],
-            headings: Vec::new(alloc),
-            text: Vec::new(alloc),
+            headings: Vec::new(filed.alloc),
+            text: Vec::new(filed.alloc),
         });
     };
-    let headings = link_headings(alloc, dictionary, rows, families, family, by_group, parent)?;
-    let text = names_text(alloc, parent, &headings)?;
+    let headings = link_headings(filed, family, by_group, parent)?;
+    let text = names_text(filed.alloc, parent, &headings)?;
     Ok(ParentLinks {
         rows: rows_with(by_group, parent),
         headings,
@@ -115,26 +102,21 @@ fn parent_links_of<'l, 's>(
 /// The link headings of a group, in the order of their bytes: those of its headings that are KEY headings of its
 /// parent group. Where that has no rows, there is nothing to be linked to, and none are looked for.
 fn link_headings<'s>(
-    alloc: Global,
-    dictionary: &Dictionary,
-    rows: &[PlacedRow<'_, '_>],
-    families: &[Family<'_, '_>],
+    filed: &FiledRows<'_, '_, '_, '_>,
     family: &Family<'s, '_>,
     by_group: &Lookup,
     parent: &[u8],
 ) -> Result<Vec<&'s [u8]>, AllocError>
-    requires kept { All (HasFamily dictionary.now families.now) rows.now }
-    requires by_group { Finds by_group.now (HasText (map row_of rows.now) HasGroupName) }
+    requires { Finds by_group.now (HasText (map row_of filed.now.rows.now) HasGroupName) }
     ensures { IfOk result (λ names.
-        AreLinkHeadingsIfRows dictionary.now by_group.now parent.now family.now.headings names.items) }
+        AreLinkHeadingsIfRows filed.now.dictionary.now by_group.now parent.now family.now.headings names.items) }
 {
     let numbers = rows_with(by_group, parent);
     if numbers.is_empty() {
-        return Ok(Vec::new(alloc));
+        return Ok(Vec::new(filed.alloc));
     }
-    let first = numbers[0] as usize;
-    let of_parent = family_at(dictionary, families, &rows[first]);
-    let common = common_headings(alloc, &family.headings, &of_parent.key_headings)?;
+    let (_, of_parent) = filed.row(numbers[0] as usize);
+    let common = common_headings(filed.alloc, &family.headings, &of_parent.key_headings)?;
     Ok(in_byte_order(common))
 }
 
@@ -221,40 +203,31 @@ fn first_with(texts: &Places<'_>, links: &ParentLinks<'_, '_>) -> usize
 /// The look-up at this place: by the entries that its users ask for, so that for one row it has no more than that
 /// needs.
 pub(crate) fn lookup_at<'s>(
-    alloc: Global,
-    dictionary: &Dictionary,
-    rows: &[PlacedRow<'_, '_>],
-    families: &[Family<'_, '_>],
+    linked: &LinkedRows<'_, 's, '_, '_>,
     links: &ParentLinks<'_, 's>,
     lists: &EntryLists<'_, 's>,
-    of_groups: &[LinkPlaces],
     place: usize,
     users: &[u32],
 ) -> Result<Lookup, AllocError>
-    requires few { length rows.now < 2 ^ 32 }
-    requires kept { All (HasFamily dictionary.now families.now) rows.now }
-    requires grouped { All (HasPlaces of_groups.now) rows.now }
-    requires numbers { AreNumbers (length rows.now) links.now }
-    requires lists { All (IsEntryList rows.now) lists.now.lists.items }
-    requires users { HasUsers rows.now of_groups.now place users.now }
-    requires below { All (λ n. n < length rows.now) users.now }
-    ensures { IfOk result (IsLookupAt rows.now of_groups.now place links.now) }
+    requires numbers { AreNumbers (length linked.now.filed.rows.now) links.now }
+    requires lists { All (IsEntryList linked.now.filed.rows.now) lists.now.lists.items }
+    requires users { HasUsers linked.now.filed.rows.now linked.now.of_groups.items place users.now }
+    requires below { All (λ n. n < length linked.now.filed.rows.now) users.now }
+    ensures { IfOk result (IsLookupAt linked.now.filed.rows.now linked.now.of_groups.items place links.now) }
 {
     match users {
         [] => {
+            let alloc = linked.filed.alloc;
             let none = rows_by_text(alloc, Vec::new(alloc))?;
             Ok(none)
         }
         [number] => {
-            let row = &rows[*number as usize];
-            let places = &of_groups[row.place].places;
-            let own = lookup_for(alloc, dictionary, rows, families, links, lists, row, places)?;
+            let (row, of_group) = linked.row(*number as usize);
+            let own = lookup_for(&linked.filed, links, lists, row, &of_group.places)?;
             Ok(own)
         }
         _ => {
-            let all = lookup_for_all(
-                alloc, dictionary, rows, families, links, of_groups, place, users,
-            )?;
+            let all = lookup_for_all(linked, links, place, users)?;
             Ok(all)
         }
     }
@@ -263,39 +236,25 @@ pub(crate) fn lookup_at<'s>(
 /// The look-up for several rows. Where they are few beside the rows of the parent group, those of these that no row asks
 /// for are left out.
 fn lookup_for_all(
-    alloc: Global,
-    dictionary: &Dictionary,
-    rows: &[PlacedRow<'_, '_>],
-    families: &[Family<'_, '_>],
+    linked: &LinkedRows<'_, '_, '_, '_>,
     links: &ParentLinks<'_, '_>,
-    of_groups: &[LinkPlaces],
     place: usize,
     users: &[u32],
 ) -> Result<Lookup, AllocError>
-    requires few { length rows.now < 2 ^ 32 }
-    requires kept { All (HasFamily dictionary.now families.now) rows.now }
-    requires grouped { All (HasPlaces of_groups.now) rows.now }
-    requires numbers { AreNumbers (length rows.now) links.now }
-    requires users { HasUsers rows.now of_groups.now place users.now }
-    requires below { All (λ n. n < length rows.now) users.now }
-    ensures { IfOk result (IsLookupAt rows.now of_groups.now place links.now) }
+    requires numbers { AreNumbers (length linked.now.filed.rows.now) links.now }
+    requires users { HasUsers linked.now.filed.rows.now linked.now.of_groups.items place users.now }
+    requires below { All (λ n. n < length linked.now.filed.rows.now) users.now }
+    ensures { IfOk result (IsLookupAt linked.now.filed.rows.now linked.now.of_groups.items place links.now) }
 {
+    let filed = &linked.filed;
     let headings = links.headings.as_slice();
     let numbers = links.rows;
     if users.len() < numbers.len() / FEW {
-        let asked = texts_asked(alloc, rows, of_groups, users)?;
-        let some = rows_by_entries(
-            alloc,
-            dictionary,
-            rows,
-            families,
-            headings,
-            numbers,
-            Some(&asked),
-        )?;
+        let asked = texts_asked(linked, users)?;
+        let some = rows_by_entries(filed, headings, numbers, Some(&asked))?;
         return Ok(some);
     }
-    let all = rows_by_entries(alloc, dictionary, rows, families, headings, numbers, None)?;
+    let all = rows_by_entries(filed, headings, numbers, None)?;
     Ok(all)
 }
 
@@ -303,22 +262,15 @@ fn lookup_for_all(
 const FEW: usize = 8;
 
 /// The texts at which rows have their parent rows.
-fn texts_asked(
-    alloc: Global,
-    rows: &[PlacedRow<'_, '_>],
-    of_groups: &[LinkPlaces],
-    users: &[u32],
-) -> Result<Lookup, AllocError>
-    requires grouped { All (HasPlaces of_groups.now) rows.now }
-    requires below { All (λ n. n < length rows.now) users.now }
-    ensures { IfOk result (AreTextsOf rows.now of_groups.now users.now) }
+fn texts_asked(linked: &LinkedRows<'_, '_, '_, '_>, users: &[u32]) -> Result<Lookup, AllocError>
+    requires { All (λ n. n < length linked.now.filed.rows.now) users.now }
+    ensures { IfOk result (AreTextsOf linked.now.filed.rows.now linked.now.of_groups.items users.now) }
 {
+    let alloc = linked.filed.alloc;
     let mut pairs = Vec::with_capacity(alloc, users.len())?;
     for number in users {
-        let row = &rows[*number as usize];
-        let links = &of_groups[row.place];
         let mut text = Vec::new(alloc);
-        push_entries(&mut text, row, &links.places)?;
+        linked.write_link_text(*number as usize, &mut text)?;
         pairs.push((text, *number))?;
     }
     rows_by_text(alloc, pairs)
@@ -326,61 +278,44 @@ fn texts_asked(
 
 /// The look-up for one row: by its entries, of the rows of the parent group that may be its parent rows.
 fn lookup_for<'s>(
-    alloc: Global,
-    dictionary: &Dictionary,
-    rows: &[PlacedRow<'_, '_>],
-    families: &[Family<'_, '_>],
+    filed: &FiledRows<'_, '_, '_, '_>,
     links: &ParentLinks<'_, 's>,
     lists: &EntryLists<'_, 's>,
     row: &PlacedRow<'_, '_>,
     places: &[Option<usize>],
 ) -> Result<Lookup, AllocError>
-    requires few { length rows.now < 2 ^ 32 }
-    requires kept { All (HasFamily dictionary.now families.now) rows.now }
-    requires numbers { AreNumbers (length rows.now) links.now }
-    requires lists { All (IsEntryList rows.now) lists.now.lists.items }
+    requires numbers { AreNumbers (length filed.now.rows.now) links.now }
+    requires lists { All (IsEntryList filed.now.rows.now) lists.now.lists.items }
     ensures { IfOk result (λ lookup. FindsAsked lookup (λ text. text_at places.now row.now ≡ text)
-        (HasLinkText rows.now links.now)) }
+        (HasLinkText filed.now.rows.now links.now)) }
 {
-    let numbers = candidates(alloc, dictionary, rows, families, links, lists, row, places)?;
-    rows_by_entries(
-        alloc,
-        dictionary,
-        rows,
-        families,
-        &links.headings,
-        &numbers,
-        None,
-    )
+    let numbers = candidates(filed, links, lists, row, places)?;
+    rows_by_entries(filed, &links.headings, &numbers, None)
 }
 
 /// These rows by their entries under the headings; of rows whose entries are not asked for, where some alone are, none.
 fn rows_by_entries(
-    alloc: Global,
-    dictionary: &Dictionary,
-    rows: &[PlacedRow<'_, '_>],
-    families: &[Family<'_, '_>],
+    filed: &FiledRows<'_, '_, '_, '_>,
     headings: &[&[u8]],
     numbers: &[u32],
     asked: Option<&Lookup>,
 ) -> Result<Lookup, AllocError>
-    requires few { length rows.now < 2 ^ 32 }
-    requires kept { All (HasFamily dictionary.now families.now) rows.now }
-    requires below { All (λ n. n < length rows.now) numbers.now }
+    requires below { All (λ n. n < length filed.now.rows.now) numbers.now }
     requires rising { IsStrictlyIncreasing numbers.now }
     ensures { IfOk result (λ lookup. Finds lookup
-        (HasAskedAmong asked.entry numbers.now rows.now (map (λ h. h.now) headings.now))) }
+        (HasAskedAmong asked.entry numbers.now filed.now.rows.now (map (λ h. h.now) headings.now))) }
 {
+    let alloc = filed.alloc;
     let room = if asked.is_some() { 0 } else { numbers.len() };
     let mut pairs = Vec::with_capacity(alloc, room)?;
     let mut entries = Vec::new(alloc);
     let mut stood = HeadingPlaces {
-        place: families.len(),
+        place: filed.families.len(),
         places: Vec::new(alloc),
     };
     for number in numbers {
-        let row = &rows[*number as usize];
-        stood = places_at(alloc, families, headings, row.place, stood)?;
+        let (row, _) = filed.row(*number as usize);
+        stood = places_at(filed, headings, row.place, stood)?;
         entries.clear();
         push_entries(&mut entries, row, &stood.places)?;
         push_asked(alloc, asked, &entries, *number, &mut pairs)?;
@@ -391,21 +326,21 @@ fn rows_by_entries(
 /// Where the headings are in the rows of the group at this place. Those of the row before are taken where it is of the
 /// same group.
 fn places_at(
-    alloc: Global,
-    families: &[Family<'_, '_>],
+    filed: &FiledRows<'_, '_, '_, '_>,
     headings: &[&[u8]],
     place: usize,
     before: HeadingPlaces,
 ) -> Result<HeadingPlaces, AllocError>
-    requires place { place < length families.now }
-    requires before { ArePlacesIn families.now (map (λ h. h.now) headings.now) before }
+    requires place { place < length filed.now.families.now }
+    requires before { ArePlacesIn filed.now.families.now (map (λ h. h.now) headings.now) before }
     ensures place { IfOk result (λ stood. stood.place ≡ place) }
-    ensures places { IfOk result (ArePlacesIn families.now (map (λ h. h.now) headings.now)) }
+    ensures places { IfOk result (ArePlacesIn filed.now.families.now (map (λ h. h.now) headings.now)) }
 {
     if before.place == place {
         return Ok(before);
     }
-    let places = heading_places(alloc, &families[place].headings, headings)?;
+    let families = filed.families;
+    let places = heading_places(filed.alloc, &families[place].headings, headings)?;
     Ok(HeadingPlaces { place, places })
 }
 
@@ -438,20 +373,15 @@ fn is_asked(asked: Option<&Lookup>, text: &[u8]) -> bool
 }
 
 /// For each look-up the rows that have their parent rows in it.
-pub(crate) fn users_of(
-    alloc: Global,
-    rows: &[PlacedRow<'_, '_>],
-    of_groups: &[LinkPlaces],
-) -> Result<Vec<Vec<u32>>, AllocError>
-    requires few { length rows.now < 2 ^ 32 }
-    requires grouped { All (HasPlaces of_groups.now) rows.now }
-    ensures size { IfOk result (λ users. length users.items ≡ length of_groups.now) }
-    ensures users { IfOk result (λ users. HaveUsers rows.now of_groups.now users.items) }
+pub(crate) fn users_of(linked: &LinkedRows<'_, '_, '_, '_>) -> Result<Vec<Vec<u32>>, AllocError>
+    ensures size { IfOk result (λ users. length users.items ≡ length linked.now.of_groups.items) }
+    ensures users { IfOk result (λ users.
+        HaveUsers linked.now.filed.rows.now linked.now.of_groups.items users.items) }
 {
-    let mut users = empty_lists(alloc, of_groups.len())?;
-    for (number, row) in rows.iter().enumerate() {
-        let lookup = of_groups[row.place].lookup;
-        users[lookup].push(number as u32)?;
+    let mut users = empty_lists(linked.filed.alloc, linked.of_groups.len())?;
+    for number in 0..linked.filed.rows.len() {
+        let (_, links) = linked.row(number);
+        users[links.lookup].push(number as u32)?;
     }
     Ok(users)
 }

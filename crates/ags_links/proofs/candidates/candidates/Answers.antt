@@ -2,13 +2,12 @@ use Rattle.std.proofs.Common.{◌≡◌, ◌∙◌, get_or, map, sym, ap, true�
 use Rattle.std.proofs.lemmas.Option.{IfSome_then}
 use Rattle.ags_rows.specs.Contents.{place_in}
 use Rattle.ags_rows.specs.Collecting.{At}
-use Rattle.ags_links.specs.declared.families.Family.{Family}
 use Rattle.ags_links.specs.Families.{HasEntries}
 use Rattle.ags_links.specs.ParentRows.{link_names, text_at}
 use Rattle.ags_links.specs.Placing.{row_of}
-use Rattle.ags_links.proofs.Choosing.{all_chosen, chosen_next, chosen_over, first_entry, has_no_text, none_chosen}
+use Rattle.ags_links.proofs.Choosing.{chosen_next, chosen_over, first_entry, has_no_text}
 use Rattle.ags_links.proofs.Heading.{places_named}
-use Rattle.ags_links.proofs.Kept.{family_below, texts}
+use Rattle.ags_links.proofs.Kept.{texts}
 use Rattle.ags_links.proofs.Members.{some_items}
 use Rattle.ags_links.proofs.RowLemmas.{read_at}
 use Rattle.ags_rows.proofs.Lemmas.{at_map}
@@ -17,7 +16,7 @@ use Rattle.ags_links.proofs.candidates.candidates.Goals.{then-may_have+then-may_
 
 pub loop-place-preserved : goal.loop-place-preserved
 loop-place-preserved c =
-    let rows = map row_of c.args.rows.now in
+    let rows = map row_of c.args.filed.now.rows.now in
     let numbers = c.args.links.now.rows.now in
     let names = link_names c.args.links.now in
     let places = c.args.places.now in
@@ -26,19 +25,19 @@ loop-place-preserved c =
     let i = c.loop-place.place in
     let n = get_or numbers i 0 in
     let other = c.index-rows-number.result in
-    let stands : At c.args.rows.now n other = (c.requires.numbers.0 i 0 c.loop-place-test.true, sym c.index-rows-number.is) in
-    let at = at_map row_of c.args.rows.now n other stands in
+    let stands : At c.args.filed.now.rows.now n other = (c.requires.numbers.0 i 0 c.loop-place-test.true, sym c.index-rows-number.is) in
+    let at = at_map row_of c.args.filed.now.rows.now n other stands in
     let over : (HasEntries names (row_of other) text → ⊥) → _ = chosen_over rows numbers names text c.loop-place.chosen.items i (row_of other) c.loop-place-test.true c.loop-place.invariant at in
     elim c.if-may_have.branch [
       | then-may_have+then-may_be_parent+in_ok-push w ↦ rw w.chosen-is (chosen_next rows numbers names text c.loop-place.chosen.items w.push.new.self.items i c.loop-place-test.true c.requires.numbers.1 c.loop-place.invariant w.in_ok-push.ensures.items)
       | else-may_have w ↦ rw w.chosen-is (elim w.else-may_have.branch [
         | else-may_have-via-then-may_have+else-may_be_parent v ↦
-            let family = c.index-families-first.result in
+            let family = c.row.result.1.now in
             let stood : v.deref-then-may_have.result.now ≡ map (place_in family.headings) names =
-            v.deref-then-may_have.ensures.value ∙ c.in_ok-stood.ensures ∙ places_named (get_or c.args.families.now c.index-rows-start.result.place family).headings c.deref.result.now
-            ∙ ap (λ (f : Family). map (place_in f.headings) (texts c.deref.result.now)) (sym c.index-families-first.is) ∙ ap (λ hs. map (place_in family.headings) (texts hs)) c.deref.ensures.value in
-            over (has_no_text c.args.dictionary.now c.args.families.now c.args.rows.now n c.index-rows-start.result.place other y family places v.deref-then-may_have.result.now names v.may_be_parent.result c.requires.kept stands
-            (sym c.index-families-first.is) stood v.may_be_parent.ensures.apart v.may_be_parent.ensures.agree v.if-may_be_parent.false)
+            v.deref-then-may_have.ensures.value ∙ c.in_ok-stood.ensures ∙ places_named family.headings c.deref.result.now
+            ∙ ap (λ hs. map (place_in family.headings) (texts hs)) c.deref.ensures.value in
+            over (has_no_text c.args.filed.now.dictionary.now c.args.filed.now.families.now c.args.filed.now.rows.now n c.row.result.0.now.place other y family places v.deref-then-may_have.result.now names v.may_be_parent.result c.args.filed.now.kept stands
+            c.row.ensures.family.1 stood v.may_be_parent.ensures.apart v.may_be_parent.ensures.agree v.if-may_be_parent.false)
         | else-may_have-via-else-may_have v ↦ over (λ has.
             let h = first_entry names places other y _ (read_at places 0 _ (some_items places c.is_empty-else-is_empty.result c.is_empty-else-is_empty.ensures c.if-is_empty-2.false)) has in
             true≢false (sym (c.may_have.ensures (IfSome_then c.leading_entries-entries.result c.leading_entries-entries.ensures
@@ -46,20 +45,6 @@ loop-place-preserved c =
       ])
     ]
 
-pub returns : goal.returns
-returns c = all_chosen (map row_of c.args.rows.now) c.args.links.now.rows.now (link_names c.args.links.now) (text_at c.args.places.now c.args.row.now) c.loop-place.chosen.items c.loop-place.place c.loop-place-test.false c.loop-place.invariant
+pub row-requires : goal.row-requires
+row-requires c = c.requires.numbers.0 0 0 (some_items c.args.links.now.rows.now c.is_empty.result c.is_empty.ensures c.if-is_empty.false)
 
-pub bounds-rows-start : goal.bounds-rows-start
-bounds-rows-start c = c.requires.numbers.0 0 0 (some_items c.args.links.now.rows.now c.is_empty.result c.is_empty.ensures c.if-is_empty.false)
-
-pub bounds-families-first : goal.bounds-families-first
-bounds-families-first c =
-    let numbers = c.args.links.now.rows.now in
-    family_below c.args.dictionary.now c.args.families.now c.args.rows.now (get_or numbers 0 0) c.index-rows-start.result c.requires.kept
-    (c.requires.numbers.0 0 0 (some_items numbers c.is_empty.result c.is_empty.ensures c.if-is_empty.false), sym c.index-rows-start.is)
-
-pub loop-place-init : goal.loop-place-init
-loop-place-init c = none_chosen (map row_of c.args.rows.now) c.args.links.now.rows.now (link_names c.args.links.now) (text_at c.args.places.now c.args.row.now) c.new-chosen.result.items c.new-chosen.ensures.items
-
-pub bounds-rows-number : goal.bounds-rows-number
-bounds-rows-number c = c.requires.numbers.0 c.loop-place.place 0 c.loop-place-test.true

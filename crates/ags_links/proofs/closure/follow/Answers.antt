@@ -4,12 +4,9 @@ use Rattle.std.proofs.lemmas.List.Elements.{Contains-push}
 use Rattle.ags_links.specs.Work.{targets, Looked}
 use Rattle.ags_links.proofs.Marks.{marked_below}
 use Rattle.ags_links.proofs.Members.{targets_below}
-use Rattle.ags_links.proofs.Follows.{Following, follow_begins, follow_more, follow_ends, follow_turns, follow_falls, follow_fits}
+use Rattle.ags_links.proofs.Follows.{Following, follow_more, follow_ends, follow_turns, follow_falls, follow_fits}
 use Rattle.ags_links.proofs.closure.follow.Goals as goal
 use Rattle.ags_links.proofs.closure.follow.Goals.{In-Some, In_default, After-turns-1}
-
-pub loop-row-init : goal.loop-row-init
-loop-row-init c = follow_begins _ _ _ c.requires.marked c.requires.all c.requires.weight
 
 -- what is kept, with the row that was taken at the end
 taken : (c : In-Some) → Following c.args.steps.now c.args.marks.now c.loop-row.marks (c.pop.new.self.items ++ c.in-Some.row ∷ []) c.loop-row.turns

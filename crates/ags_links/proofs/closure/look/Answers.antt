@@ -1,12 +1,7 @@
-use Rattle.std.proofs.Common.{subst, arith}
-use Rattle.std.proofs.lemmas.List.{take_all}
-use Rattle.ags_links.specs.Work.{Looked}
-use Rattle.ags_links.proofs.Looks.{looks_begin, look_over_next, look_marks_next}
+use Rattle.std.proofs.Common.{arith}
+use Rattle.ags_links.proofs.Looks.{look_over_next, look_marks_next}
 use Rattle.ags_links.proofs.closure.look.Goals as goal
 use Rattle.ags_links.proofs.closure.look.Goals.{then-not-marks-target+in_ok-push, else-not-marks-target}
-
-pub loop-target-init : goal.loop-target-init
-loop-target-init c = record { looked = looks_begin _ _; turns = omega arith }
 
 pub loop-target-preserved : goal.loop-target-preserved
 loop-target-preserved c =
@@ -18,15 +13,3 @@ loop-target-preserved c =
       turns = omega arith;
     }
 
-pub bounds-marks-target : goal.bounds-marks-target
-bounds-marks-target c = omega (arith, c.requires.rows c.loop-target.target-index 0 c.loop-target-test.true, c.loop-target.auto.marks)
-
-pub overflow_add-turns : goal.overflow_add-turns
-overflow_add-turns c = omega (arith, c.requires.room, c.loop-target.invariant.turns, c.loop-target-test.true)
-
-pub returns-clause-looked : goal.returns-clause-looked
-returns-clause-looked c =
-    subst (λ seen. Looked seen c.args.marks.now c.loop-target.marks c.args.work.now.items c.loop-target.work.items) (take_all c.loop-target.target-index c.args.beside.now c.loop-target-test.false) c.loop-target.invariant.looked
-
-pub returns-clause-turns : goal.returns-clause-turns
-returns-clause-turns c = omega (arith, c.loop-target.invariant.turns, c.loop-target-test.false, c.loop-target.auto.target-index-end)

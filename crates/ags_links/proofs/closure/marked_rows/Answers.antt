@@ -1,11 +1,8 @@
-use Rattle.ags_links.proofs.MarkedRows.{rows_begin, rows_over, rows_more, rows_end}
+use Rattle.ags_links.proofs.MarkedRows.{rows_over, rows_more}
 use Rattle.std.proofs.Common.{arith}
 use Rattle.ags_links.proofs.Marks.{marked_below}
 use Rattle.ags_links.proofs.closure.marked_rows.Goals as goal
 use Rattle.ags_links.proofs.closure.marked_rows.Goals.{then-marked+in_ok-push, else-marked}
-
-pub loop-row-init : goal.loop-row-init
-loop-row-init c = rw c.new-work.ensures.items (rows_begin _)
 
 pub loop-row-preserved : goal.loop-row-preserved
 loop-row-preserved c = elim c.if-marked.branch [
@@ -13,11 +10,6 @@ loop-row-preserved c = elim c.if-marked.branch [
   | else-marked w ↦ rw w.work-is (rows_over _ _ _ c.loop-row.invariant c.loop-row-test.true w.if-marked.false)
 ]
 
-pub returns-clause-marked : goal.returns-clause-marked
-returns-clause-marked c = c.loop-row.invariant.marked
-
 pub returns-clause-all : goal.returns-clause-all
 returns-clause-all c = λ r h. c.loop-row.invariant.all r (omega (arith, marked_below c.args.marks.now r h)) h
 
-pub returns-clause-weight : goal.returns-clause-weight
-returns-clause-weight c = rows_end _ _ _ c.loop-row.invariant c.loop-row-test.false

@@ -1,34 +1,9 @@
-use Rattle.std.proofs.Common.{◌≡◌, ◌<◌, ◌^◌, ◌∙◌, ◌++◌, List, Bool, length, take, drop, ap, subst, sym, arith}
+use Rattle.std.proofs.Common.{◌≡◌, ◌∙◌, ◌++◌, length, take, drop, ap, subst, sym, arith}
 use Rattle.ags_links.specs.Turns.{turns_of}
-use Rattle.ags_links.specs.Walks.{InRange, IsMarked, AreReachedFrom}
-use Rattle.ags_links.specs.Work.{IsAdjacency, weigh}
+use Rattle.ags_links.specs.Walks.{AreReachedFrom}
 use Rattle.ags_links.proofs.Growing.{written_back}
 use Rattle.ags_links.proofs.closure.spread.Goals as goal
 use Rattle.ags_links.proofs.closure.spread.Goals.{After-drop-beside-2}
-
-pub marked_rows-requires : goal.marked_rows-requires
-marked_rows-requires c = c.requires.rows
-
-pub follow-requires-clause-range : goal.follow-requires-clause-range
-follow-requires-clause-range c = subst (λ (marks : List Bool). InRange (length marks) c.args.steps.now) (sym (c.deref_mut.ensures.value ∙ c.in_ok-marks.ensures.items)) c.requires.range
-
-pub follow-requires-clause-length : goal.follow-requires-clause-length
-follow-requires-clause-length c = ap length c.deref.ensures.value ∙ c.in_ok-beside.ensures.rows ∙ sym (ap length (c.deref_mut.ensures.value ∙ c.in_ok-marks.ensures.items))
-
-pub follow-requires-clause-rows : goal.follow-requires-clause-rows
-follow-requires-clause-rows c = subst (λ (marks : List Bool). length marks < 2 ^ 32) (sym (c.deref_mut.ensures.value ∙ c.in_ok-marks.ensures.items)) c.requires.rows
-
-pub follow-requires-clause-beside : goal.follow-requires-clause-beside
-follow-requires-clause-beside c = subst (IsAdjacency c.args.steps.now) (sym c.deref.ensures.value) c.in_ok-beside.ensures.each
-
-pub follow-requires-clause-marked : goal.follow-requires-clause-marked
-follow-requires-clause-marked c = λ r h. subst (λ marks. IsMarked marks r) (sym (c.deref_mut.ensures.value ∙ c.in_ok-marks.ensures.items)) (c.in_ok-work.ensures.marked r h)
-
-pub follow-requires-clause-all : goal.follow-requires-clause-all
-follow-requires-clause-all c = λ r h. c.in_ok-work.ensures.all r (subst (λ marks. IsMarked marks r) (c.deref_mut.ensures.value ∙ c.in_ok-marks.ensures.items) h)
-
-pub follow-requires-clause-weight : goal.follow-requires-clause-weight
-follow-requires-clause-weight c = λ w. c.in_ok-work.ensures.weight w ∙ ap (weigh w) (sym (c.deref_mut.ensures.value ∙ c.in_ok-marks.ensures.items))
 
 -- the marks that are returned are those that the walk left
 left : (c : After-drop-beside-2) → take c.in_ok-marks.marks.len (c.follow.new.marks ++ drop (length c.follow.new.marks) c.in_ok-marks.marks.items) ≡ c.follow.new.marks

@@ -1,9 +1,6 @@
 use Rattle.ags_links.specs.Families.{IsFamily}
-use Rattle.ags_links.proofs.Kept.{kept_none, kept_next, kept_all, rows_have}
+use Rattle.ags_links.proofs.Kept.{kept_next, kept_all, rows_have}
 use Rattle.ags_links.proofs.families.families.Goals as goal
-
-pub loop-group-init : goal.loop-group-init
-loop-group-init c = kept_none (λ place. IsFamily c.args.dictionary.now) c.new-families.result.items c.new-families.ensures.items
 
 pub loop-group-preserved : goal.loop-group-preserved
 loop-group-preserved c =
@@ -15,5 +12,3 @@ returns-clause-kept c =
     rows_have c.args.dictionary.now c.args.groups.now c.loop-group.families.items c.args.rows.now
     (kept_all (λ place. IsFamily c.args.dictionary.now) c.args.groups.now c.loop-group.group-index c.loop-group.families.items c.loop-group-test.false c.loop-group.invariant) c.requires
 
-pub returns-clause-families : goal.returns-clause-families
-returns-clause-families c = kept_all (λ place. IsFamily c.args.dictionary.now) c.args.groups.now c.loop-group.group-index c.loop-group.families.items c.loop-group-test.false c.loop-group.invariant

@@ -1,8 +1,6 @@
-use Rattle.std.proofs.Common.{◌≡◌, ℕ, List, [], Bool, Bor, get_or, map, filter, ap, sym, ◌∙◌, codes}
-use Rattle.std.proofs.lemmas.List.{take_all}
+use Rattle.std.proofs.Common.{◌≡◌, ℕ, List, [], Bool, Bor, get_or, ap, sym, ◌∙◌, codes}
 use Rattle.std.specs.Str.{bytes_eq}
 use Rattle.ags_rows.specs.Contents.{place_in, under, field_at}
-use Rattle.ags_links.proofs.Kept.{texts}
 use Rattle.ags_links.proofs.Heading.{place_taken, place_passed}
 use Rattle.ags_links.proofs.families.record_links.Goals as goal
 use Rattle.ags_links.proofs.families.record_links.Goals.{then-eq+in_ok-push, else-eq}
@@ -21,8 +19,3 @@ loop-heading-preserved c =
       | else-eq w ↦ rw w.places-is (place_passed (place_in headings) is_link c.loop-heading.places.items names i d c.loop-heading-test.true c.loop-heading.invariant (tested ∙ w.if-eq.false))
     ]
 
-pub returns : goal.returns
-returns c =
-    let names = c.names-heading-items.result.now in
-    c.loop-heading.invariant ∙ ap (λ hs. map (place_in c.args.headings.now) (filter (λ h. bytes_eq (under c.args.headings.now c.args.group.now.types h) (codes "RL")) hs))
-    (ap texts (take_all c.loop-heading.heading-index names c.loop-heading-test.false) ∙ c.names-heading-items.ensures)

@@ -1,35 +1,31 @@
 use Rattle.std.proofs.Common.{◌≡◌, ◌+◌, ◌++◌, ◌∙◌, length, take, drop, ap, sym, subst, arith}
 use Rattle.ags_links.specs.ParentRows.{AreListed, AreNumbers, AreSpansOf}
 use Rattle.ags_links.proofs.Growing.{written_back}
-use Rattle.ags_links.proofs.Listing.{none_listed, listed_next, all_listed}
+use Rattle.ags_links.proofs.Listing.{none_listed, listed_next}
 use Rattle.ags_links.proofs.Using.{users_at, users_below}
 use Rattle.ags_links.proofs.listed_parents.lists_of_lookups.Goals as goal
 
-pub loop-place-init : goal.loop-place-init
-loop-place-init c =
-    none_listed c.args.rows.now c.args.of_groups.now c.new-lists.result.items c.in_ok-spans.spans.items c.new-lists.ensures.items (omega (arith, c.in_ok-spans.spans.ok.0, c.in_ok-spans.ensures.len))
-
 pub lookup_at-requires-clause-numbers : goal.lookup_at-requires-clause-numbers
-lookup_at-requires-clause-numbers c = subst (AreNumbers (length c.args.rows.now)) (sym c.index-links-place.is) (c.requires.numbers c.loop-place.place c.index-links-place.result c.loop-place-test.true)
+lookup_at-requires-clause-numbers c = subst (AreNumbers (length c.args.linked.now.filed.rows.now)) (sym c.index-links-place.is) (c.requires.numbers c.loop-place.place c.index-links-place.result c.loop-place-test.true)
 
 pub lookup_at-requires-clause-users : goal.lookup_at-requires-clause-users
 lookup_at-requires-clause-users c =
-    users_at c.args.rows.now c.args.of_groups.now c.loop-place.place c.args.users.now c.index-users-place.result c.as_slice-used_by.result.now c.requires.users (omega (arith, c.loop-place-test.true, c.requires.size)) c.index-users-place.is c.as_slice-used_by.ensures.value
+    users_at c.args.linked.now.filed.rows.now c.args.linked.now.of_groups.items c.loop-place.place c.args.users.now c.index-users-place.result c.as_slice-used_by.result.now c.requires.users (omega (arith, c.loop-place-test.true, c.requires.size)) c.index-users-place.is c.as_slice-used_by.ensures.value
 
 pub lookup_at-requires-clause-below : goal.lookup_at-requires-clause-below
 lookup_at-requires-clause-below c =
-    users_below c.args.rows.now c.args.of_groups.now c.loop-place.place c.as_slice-used_by.result.now
-    (users_at c.args.rows.now c.args.of_groups.now c.loop-place.place c.args.users.now c.index-users-place.result c.as_slice-used_by.result.now c.requires.users (omega (arith, c.loop-place-test.true, c.requires.size)) c.index-users-place.is c.as_slice-used_by.ensures.value)
+    users_below c.args.linked.now.filed.rows.now c.args.linked.now.of_groups.items c.loop-place.place c.as_slice-used_by.result.now
+    (users_at c.args.linked.now.filed.rows.now c.args.linked.now.of_groups.items c.loop-place.place c.args.users.now c.index-users-place.result c.as_slice-used_by.result.now c.requires.users (omega (arith, c.loop-place-test.true, c.requires.size)) c.index-users-place.is c.as_slice-used_by.ensures.value)
 
 pub note_spans-requires-clause-below : goal.note_spans-requires-clause-below
 note_spans-requires-clause-below c =
-    users_below c.args.rows.now c.args.of_groups.now c.loop-place.place c.as_slice-used_by.result.now
-    (users_at c.args.rows.now c.args.of_groups.now c.loop-place.place c.args.users.now c.index-users-place.result c.as_slice-used_by.result.now c.requires.users (omega (arith, c.loop-place-test.true, c.requires.size)) c.index-users-place.is c.as_slice-used_by.ensures.value)
+    users_below c.args.linked.now.filed.rows.now c.args.linked.now.of_groups.items c.loop-place.place c.as_slice-used_by.result.now
+    (users_at c.args.linked.now.filed.rows.now c.args.linked.now.of_groups.items c.loop-place.place c.args.users.now c.index-users-place.result c.as_slice-used_by.result.now c.requires.users (omega (arith, c.loop-place-test.true, c.requires.size)) c.index-users-place.is c.as_slice-used_by.ensures.value)
 
 pub loop-place-preserved : goal.loop-place-preserved
 loop-place-preserved c =
-    let rows = c.args.rows.now in
-    let of_groups = c.args.of_groups.now in
+    let rows = c.args.linked.now.filed.rows.now in
+    let of_groups = c.args.linked.now.of_groups.items in
     let links = c.args.links.now in
     let i = c.loop-place.place in
     let used_by = c.as_slice-used_by.result.now in
@@ -44,5 +40,6 @@ loop-place-preserved c =
     (users_at rows of_groups i c.args.users.now c.index-users-place.result used_by c.requires.users (omega (arith, c.loop-place-test.true, c.requires.size)) c.index-users-place.is c.as_slice-used_by.ensures.value)
     (subst (λ old. AreSpansOf rows of_groups c.in_ok-lookup.lookup used_by old new) c.deref_mut.ensures.value c.in_ok-note_spans.ensures)))
 
-pub returns : goal.returns
-returns c = all_listed c.args.rows.now c.args.of_groups.now c.args.links.now c.loop-place.place c.loop-place.lists.items c.loop-place.spans.items c.loop-place-test.false c.loop-place.invariant
+pub loop-place-init : goal.loop-place-init
+loop-place-init c =
+    none_listed c.args.linked.now.filed.rows.now c.args.linked.now.of_groups.items c.new-lists.result.items c.in_ok-spans.spans.items c.new-lists.ensures.items (omega (arith, c.in_ok-spans.spans.ok.0, c.in_ok-spans.ensures.len))

@@ -1,12 +1,6 @@
-use Rattle.std.proofs.Common.{sym, subst, ap, arith, length}
+use Rattle.std.proofs.Common.{sym, subst}
 use Rattle.ags_links.specs.ParentRows.{HaveUsers}
 use Rattle.ags_links.proofs.listed_parents.used_lists.Goals as goal
 
-pub entry_lists-requires-clause-size : goal.entry_lists-requires-clause-size
-entry_lists-requires-clause-size c = omega (arith, ap length c.deref.ensures.value, c.in_ok-users.ensures.size, c.requires.size)
-
-pub lists_of_lookups-requires-clause-size : goal.lists_of_lookups-requires-clause-size
-lists_of_lookups-requires-clause-size c = omega (arith, ap length c.deref-2.ensures.value, c.in_ok-users.ensures.size, c.requires.size)
-
 pub lists_of_lookups-requires-clause-users : goal.lists_of_lookups-requires-clause-users
-lists_of_lookups-requires-clause-users c = subst (HaveUsers c.args.rows.now c.args.of_groups.now) (sym c.deref-2.ensures.value) c.in_ok-users.ensures.users
+lists_of_lookups-requires-clause-users c = subst (HaveUsers c.args.linked.now.filed.rows.now c.args.linked.now.of_groups.items) (sym c.deref-2.ensures.value) c.in_ok-users.ensures.users

@@ -1,10 +1,7 @@
 use Rattle.std.proofs.Common.{sym, arith}
 use Rattle.ags_links.specs.ParentRows.{IsParentLinks}
-use Rattle.ags_links.proofs.Kept.{kept_none, kept_next, kept_all}
+use Rattle.ags_links.proofs.Kept.{kept_next}
 use Rattle.ags_links.proofs.parents.all_parent_links.Goals as goal
-
-pub loop-place-init : goal.loop-place-init
-loop-place-init c = kept_none (λ place. IsParentLinks c.args.dictionary.now c.args.by_group.now) c.new-links.result.items c.new-links.ensures.items
 
 pub parent_links_of-requires-clause-family : goal.parent_links_of-requires-clause-family
 parent_links_of-requires-clause-family c =
@@ -14,7 +11,5 @@ parent_links_of-requires-clause-family c =
 pub loop-place-preserved : goal.loop-place-preserved
 loop-place-preserved c =
     rw c.in_ok-push.ensures.items
-    (kept_next (λ place. IsParentLinks c.args.dictionary.now c.args.by_group.now) c.args.groups.now c.loop-place.place c.loop-place.links.items c.index-groups-place.result c.in_ok-parent_links_of.field-0 c.loop-place-test.true c.index-groups-place.is c.loop-place.invariant c.in_ok-parent_links_of.ensures)
+    (kept_next (λ place. IsParentLinks c.args.filed.now.dictionary.now c.args.by_group.now) c.args.groups.now c.loop-place.place c.loop-place.links.items c.index-groups-place.result c.in_ok-parent_links_of.field-0 c.loop-place-test.true c.index-groups-place.is c.loop-place.invariant c.in_ok-parent_links_of.ensures)
 
-pub returns : goal.returns
-returns c = kept_all (λ place. IsParentLinks c.args.dictionary.now c.args.by_group.now) c.args.groups.now c.loop-place.place c.loop-place.links.items c.loop-place-test.false c.loop-place.invariant

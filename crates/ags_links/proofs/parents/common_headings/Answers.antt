@@ -1,8 +1,7 @@
-use Rattle.std.proofs.Common.{◌≡◌, ℕ, List, [], Bor, get_or, filter, ap, sym, ◌∙◌}
+use Rattle.std.proofs.Common.{◌≡◌, ℕ, List, [], Bor, get_or, ap, sym, ◌∙◌}
 use Rattle.std.specs.Prelude.{is_some}
-use Rattle.std.proofs.lemmas.List.{take_all}
 use Rattle.ags_links.specs.Families.{is_one_of}
-use Rattle.ags_links.proofs.Kept.{texts, heading_taken, heading_passed}
+use Rattle.ags_links.proofs.Kept.{heading_taken, heading_passed}
 use Rattle.ags_links.proofs.parents.common_headings.Goals as goal
 use Rattle.ags_links.proofs.parents.common_headings.Goals.{then-is_some+in_ok-push, else-is_some}
 
@@ -17,7 +16,3 @@ loop-heading-preserved c =
       | else-is_some w ↦ rw w.common-is (heading_passed (is_one_of c.args.keys.now) c.loop-heading.common.items names i d c.loop-heading-test.true c.loop-heading.invariant (tested ∙ w.if-is_some.false))
     ]
 
-pub returns : goal.returns
-returns c =
-    let names = c.names-heading-items.result.now in
-    c.loop-heading.invariant ∙ ap (filter (is_one_of c.args.keys.now)) (ap texts (take_all c.loop-heading.heading-index names c.loop-heading-test.false) ∙ c.names-heading-items.ensures)

@@ -4,13 +4,10 @@ use Rattle.ags_links.specs.declared.families.Family.{Family}
 use Rattle.ags_links.specs.declared.parents.ParentLinks.{ParentLinks}
 use Rattle.ags_links.specs.ParentRows.{IsPlacedAt, link_names}
 use Rattle.ags_links.proofs.Heading.{places_named}
-use Rattle.ags_links.proofs.Kept.{kept_none, kept_next, kept_all, texts}
+use Rattle.ags_links.proofs.Kept.{kept_next, texts}
 use Rattle.ags_links.proofs.Members.{contains_map}
 use Rattle.ags_links.proofs.RowLemmas.{one_at}
 use Rattle.ags_links.proofs.parents.link_places.Goals as goal
-
-pub loop-place-init : goal.loop-place-init
-loop-place-init c = kept_none (IsPlacedAt c.args.families.now c.args.texts.now) c.new-of_groups.result.items c.new-of_groups.ensures.items
 
 pub first_with-requires : goal.first_with-requires
 first_with-requires c =
@@ -29,5 +26,3 @@ loop-place-preserved c =
       c.first_with.ensures,
     ))
 
-pub returns : goal.returns
-returns c = kept_all (IsPlacedAt c.args.families.now c.args.texts.now) c.args.links.now c.loop-place.place c.loop-place.of_groups.items c.loop-place-test.false c.loop-place.invariant

@@ -10,8 +10,8 @@ use Rattle.ags_links.proofs.parents.lookup_for_all.Goals as goal
 
 pub returns-then-users-numbers : goal.returns-then-users-numbers
 returns-then-users-numbers c =
-    let rows = c.args.rows.now in
-    let of_groups = c.args.of_groups.now in
+    let rows = c.args.linked.now.filed.rows.now in
+    let of_groups = c.args.linked.now.of_groups.items in
     let numbers = c.args.links.now.rows.now in
     let place = c.args.place in
     let lookup = c.in_ok-some.some in
@@ -20,10 +20,10 @@ returns-then-users-numbers c =
 
 pub returns : goal.returns
 returns c =
-    let rows = c.args.rows.now in
+    let rows = c.args.linked.now.filed.rows.now in
     let numbers = c.args.links.now.rows.now in
     let lookup = c.in_ok-all.all in
     let Has = HasAmong numbers (map row_of rows) (HasEntries (link_names c.args.links.now)) in
-    finds_asked lookup (IsAskedOf rows c.args.of_groups.now c.args.place) Has Has
+    finds_asked lookup (IsAskedOf rows c.args.linked.now.of_groups.items c.args.place) Has Has
     (finds_all lookup numbers rows (link_names c.args.links.now) (subst (λ hs. Finds lookup (HasAskedAmong None numbers rows (texts hs))) c.as_slice-headings.ensures.value c.in_ok-all.ensures))
     (λ m text asked h. h) (λ m text asked h. h)

@@ -9,7 +9,7 @@ use Rattle.ags_links.proofs.parents.parent_links_of.Goals as goal
 -- there is a parent group
 pub returns : goal.returns
 returns c =
-    let entries = c.args.dictionary.now in
+    let entries = c.args.filed.now.dictionary.now in
     let group = c.args.group.now in
     let parent = c.in-Some.parent.now in
     let links : ParentLinks = record { rows = c.rows_with.result; headings = c.in_ok-headings.headings; text = c.in_ok-text.text } in

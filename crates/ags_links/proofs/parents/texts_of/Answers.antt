@@ -1,7 +1,6 @@
-use Rattle.std.proofs.Common.{◌≡◌, ◌∙◌, ◌++◌, ◌∷◌, [], Bor, List, ℕ, IfOk, ap, subst}
-use Rattle.std.proofs.lemmas.List.{map-append, take_all}
+use Rattle.std.proofs.Common.{◌∙◌, ◌++◌, ◌∷◌, [], Bor, List, ℕ, ap}
+use Rattle.std.proofs.lemmas.List.{map-append}
 use Rattle.ags_links.specs.declared.parents.ParentLinks.{ParentLinks}
-use Rattle.ags_links.specs.ParentRows.{texts_in}
 use Rattle.ags_links.proofs.Growing.{map_more}
 use Rattle.ags_links.proofs.Kept.{texts}
 use Rattle.ags_links.proofs.parents.texts_of.Goals as goal
@@ -13,5 +12,3 @@ loop-of_group-preserved c =
     map_more (λ (l : ParentLinks). l.text.items) [] (texts old) (texts c.push.new.self.items) c.args.links.now c.loop-of_group.of_group-index item c.loop-of_group-test.true c.loop-of_group.invariant
     (ap texts c.in_ok-push.ensures.items ∙ map-append (λ (h : Bor (List ℕ)). h.now) old _ ∙ ap (λ t. texts old ++ t ∷ []) (c.as_slice.ensures.value ∙ ap (λ (l : ParentLinks). l.text.items) c.of_group-item.is))
 
-pub returns : goal.returns
-returns c = subst (λ names. IfOk c.of.result (λ found. found ≡ names)) (c.loop-of_group.invariant ∙ ap texts_in (take_all c.loop-of_group.of_group-index c.args.links.now c.loop-of_group-test.false)) c.of.ensures

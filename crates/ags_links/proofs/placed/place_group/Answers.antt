@@ -1,17 +1,11 @@
-use Rattle.std.proofs.Common.{◌++◌, ◌∙◌, map, ap, sym}
-use Rattle.std.proofs.lemmas.List.{append-nil, map-append, take_all, get_or_default}
+use Rattle.std.proofs.Common.{◌∙◌, map, sym}
+use Rattle.std.proofs.lemmas.List.{map-append}
 use Rattle.std.proofs.lemmas.List.Elements.{All-push}
 use Rattle.ags_rows.specs.Contents.{group_contents, fields_of}
-use Rattle.ags_links.specs.DataRows.{data_rows_of_group, row_in}
+use Rattle.ags_links.specs.DataRows.{row_in}
 use Rattle.ags_links.specs.Placing.{row_of, IsPlaced}
 use Rattle.ags_links.proofs.Growing.{mapped_more}
 use Rattle.ags_links.proofs.placed.place_group.Goals as goal
-
-pub loop-row-init : goal.loop-row-init
-loop-row-init c = record {
-  placed = c.requires.placed;
-  rows = sym (append-nil (map row_of c.args.rows.now.items));
-}
 
 pub loop-row-preserved : goal.loop-row-preserved
 loop-row-preserved c =
@@ -22,13 +16,3 @@ loop-row-preserved c =
           ∙ mapped_more (row_in (group_contents c.index-groups-place.result)) fields_of (map row_of c.args.rows.now.items) (map row_of c.loop-row.rows.items) c.as_slice-row-items.result.now c.loop-row.row-index c.row-item.result c.loop-row-test.true c.row-item.is c.loop-row.invariant.rows;
     })
 
-pub returns-clause-placed : goal.returns-clause-placed
-returns-clause-placed c = c.loop-row.invariant.placed
-
-pub returns-clause-rows : goal.returns-clause-rows
-returns-clause-rows c = λ d.
-    let start = map row_of c.args.rows.now.items in
-    let here = c.index-groups-place.result in
-    c.loop-row.invariant.rows
-    ∙ ap (λ rows. start ++ map (row_in (group_contents here)) (map fields_of rows)) (take_all c.loop-row.row-index c.as_slice-row-items.result.now c.loop-row-test.false ∙ c.as_slice-row-items.ensures)
-    ∙ ap (λ group. start ++ data_rows_of_group (group_contents group)) (c.index-groups-place.is ∙ get_or_default c.args.groups.now c.args.place here d c.requires.place)

@@ -5,12 +5,9 @@ use Rattle.std.proofs.lemmas.List.Elements.{Contains-get_or}
 use Rattle.ags_rows.specs.Contents.{place_in}
 use Rattle.ags_links.proofs.Kept.{texts}
 use Rattle.ags_links.proofs.Members.{contains_map}
-use Rattle.ags_links.proofs.Parting.{none_taken, first_taken, later_passed, all_taken}
+use Rattle.ags_links.proofs.Parting.{first_taken, later_passed, all_taken}
 use Rattle.ags_links.proofs.texts.distinct.Goals as goal
 use Rattle.ags_links.proofs.texts.distinct.Goals.{then-is_first+in_ok-push, else-is_first}
-
-pub loop-place-init : goal.loop-place-init
-loop-place-init c = none_taken (texts c.names-listed.result.now) (texts c.new-once.result.items) (ap texts c.new-once.ensures.items)
 
 pub loop-place-preserved : goal.loop-place-preserved
 loop-place-preserved c =

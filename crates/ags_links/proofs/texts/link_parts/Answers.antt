@@ -6,15 +6,12 @@ use Rattle.ags_rows.specs.Contents.{field_at}
 use Rattle.ags_links.specs.Placing.{row_of}
 use Rattle.ags_links.proofs.Kept.{texts}
 use Rattle.ags_links.proofs.Members.{no_items}
-use Rattle.ags_links.proofs.Parting.{ArePartsAt, no_place, next_place, null_place}
+use Rattle.ags_links.proofs.Parting.{ArePartsAt, next_place, null_place}
 use Rattle.ags_links.proofs.texts.link_parts.Goals as goal
 use Rattle.ags_links.proofs.texts.link_parts.Goals.{then-not-is_empty+in_ok-push_parts, else-not-is_empty}
 
 not_null : (text : List ℕ) (t : Bool) → t ≡ eqb (length text) 0 → t ≡ false → text ≡ [] → ⊥
 not_null text t e is null = true≢false (sym (e ∙ ap (λ l. eqb (length l) 0) null) ∙ is)
-
-pub loop-place-init : goal.loop-place-init
-loop-place-init c = no_place c.args.separator (row_of c.args.row.now) (texts c.new-parts.result.items) (ap texts c.new-parts.ensures.items)
 
 pub loop-place-preserved : goal.loop-place-preserved
 loop-place-preserved c =

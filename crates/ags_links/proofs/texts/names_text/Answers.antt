@@ -1,5 +1,4 @@
 use Rattle.std.proofs.Common.{◌++◌, ap, ◌∙◌, sym, Bor, List, ℕ}
-use Rattle.std.proofs.lemmas.List.{append-nil}
 use Rattle.ags_links.specs.KeyTexts.{ended_text}
 use Rattle.std.proofs.lemmas.List.Folds.{flat_map-map}
 use Rattle.ags_links.proofs.Growing.{grow_all, grow_more}
@@ -11,9 +10,6 @@ returns c =
     let now : Bor (List ℕ) → List ℕ = λ n. n.now in
     grow_all (λ (n : Bor (List ℕ)). ended_text n.now) (ended_text c.args.first.now) c.loop-name.text.items others c.loop-name.name-index c.loop-name-test.false c.loop-name.invariant
     ∙ ap (λ l. ended_text c.args.first.now ++ l) (sym (flat_map-map ended_text now others))
-
-pub loop-name-init : goal.loop-name-init
-loop-name-init c = c.in_ok-push_text.ensures ∙ ap (λ l. l ++ ended_text c.args.first.now) c.new-text.ensures.items ∙ sym (append-nil (ended_text c.args.first.now))
 
 pub loop-name-preserved : goal.loop-name-preserved
 loop-name-preserved c =

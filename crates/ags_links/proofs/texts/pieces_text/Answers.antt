@@ -10,9 +10,6 @@ returns c =
     grow_end (piece_byte c.args.delimiter) [] c.loop-byte.text.items c.push-2.new.self.items (end_mark ∷ []) c.args.part.now c.loop-byte.byte-index c.loop-byte-test.false c.loop-byte.invariant c.in_ok-push-2.ensures.items
     ∙ pieces_key_text c.args.delimiter c.args.part.now
 
-pub loop-byte-init : goal.loop-byte-init
-loop-byte-init c = c.in_ok-text.ensures.items
-
 pub loop-byte-preserved : goal.loop-byte-preserved
 loop-byte-preserved c =
     let old = c.loop-byte.text.items in

@@ -3,11 +3,8 @@ use Rattle.ags_links.specs.DataRows.{ListsRows}
 use Rattle.ags_links.specs.Indexing.{rows_in}
 use Rattle.ags_links.specs.Steps.{StepAt}
 use Rattle.ags_links.specs.Walks.{InRange}
-use Rattle.ags_links.proofs.Stepping.{no_steps, steps_more, steps_all, steps_in_range}
+use Rattle.ags_links.proofs.Stepping.{steps_more, steps_all, steps_in_range}
 use Rattle.ags_links.proofs.graph.Graph.of.Goals as goal
-
-pub loop-row-init : goal.loop-row-init
-loop-row-init c = no_steps c.in_ok-steps.steps.items c.args.index.now c.in_ok-steps.ensures.items
 
 pub loop-row-preserved : goal.loop-row-preserved
 loop-row-preserved c =

@@ -1,8 +1,7 @@
-use Rattle.std.proofs.Common.{◌<◌, ◌^◌, ◌∙◌, List, All, length, map, ap, subst, sym}
+use Rattle.std.proofs.Common.{◌∙◌, All, map, ap, subst, sym}
 use Rattle.ags_rows.specs.Contents.{contents_of}
-use Rattle.ags_links.specs.declared.placed.PlacedRow.{PlacedRow}
 use Rattle.ags_links.specs.DataRows.{data_rows}
-use Rattle.ags_links.specs.Families.{HasFamily, HasFileSet, HasKeyText, HasText, AreFamilies}
+use Rattle.ags_links.specs.Families.{HasFileSet, HasKeyText, HasText}
 use Rattle.ags_links.specs.Keys.{AreFirstsOfKeys}
 use Rattle.ags_links.specs.Lookups.{Finds}
 use Rattle.ags_links.specs.ParentRows.{AreParentLists}
@@ -17,29 +16,8 @@ placed c = subst (λ gs. All (IsPlaced gs) c.in_ok-rows.rows.items) (sym c.group
 pub families-requires : goal.families-requires
 families-requires c = subst (All (IsPlaced c.groups-groups.result.now)) (sym c.deref.ensures.value) (placed (goal.at.families-requires c).In_ok-rows)
 
-pub listed_parents-requires-clause-few : goal.listed_parents-requires-clause-few
-listed_parents-requires-clause-few c = subst (λ (rows : List PlacedRow). length rows < 2 ^ 32) (sym c.deref-2.ensures.value) c.in_ok-rows.ensures.few
-
 pub listed_parents-requires-clause-placed : goal.listed_parents-requires-clause-placed
 listed_parents-requires-clause-placed c = subst (All (IsPlaced c.groups-groups.result.now)) (sym c.deref-2.ensures.value) (placed (goal.at.listed_parents-requires-clause-placed c).In_ok-rows)
-
-pub listed_parents-requires-clause-kept : goal.listed_parents-requires-clause-kept
-listed_parents-requires-clause-kept c =
-    let entries = c.args.dictionary.now in
-    subst (λ families. All (HasFamily entries families) c.deref-2.result.now) (sym c.deref-3.ensures.value)
-    (subst (All (HasFamily entries c.in_ok-families.families.items)) (c.deref.ensures.value ∙ sym c.deref-2.ensures.value) c.in_ok-families.ensures.kept)
-
-pub listed_parents-requires-clause-families : goal.listed_parents-requires-clause-families
-listed_parents-requires-clause-families c = subst (AreFamilies c.args.dictionary.now c.groups-groups.result.now) (sym c.deref-3.ensures.value) c.in_ok-families.ensures.families
-
-pub keyed_rows-requires-clause-few : goal.keyed_rows-requires-clause-few
-keyed_rows-requires-clause-few c = subst (λ (rows : List PlacedRow). length rows < 2 ^ 32) (sym c.deref-4.ensures.value) c.in_ok-rows.ensures.few
-
-pub keyed_rows-requires-clause-kept : goal.keyed_rows-requires-clause-kept
-keyed_rows-requires-clause-kept c =
-    let entries = c.args.dictionary.now in
-    subst (λ families. All (HasFamily entries families) c.deref-4.result.now) (sym c.deref-5.ensures.value)
-    (subst (All (HasFamily entries c.in_ok-families.families.items)) (c.deref.ensures.value ∙ sym c.deref-4.ensures.value) c.in_ok-families.ensures.kept)
 
 pub invariant_of-result : goal.invariant_of-result
 invariant_of-result c =
@@ -52,8 +30,8 @@ invariant_of-result c =
       few = c.in_ok-rows.ensures.few;
       families = c.in_ok-families.ensures.families;
       parented = subst (λ rows. AreParentLists entries rows listed.parents listed.spans.items) c.deref-2.ensures.value c.in_ok-listed.ensures;
-      first = subst (λ rows. AreFirstsOfKeys (map row_of rows) entries keyed.firsts.items) c.deref-4.ensures.value c.in_ok-keyed.ensures.firsts;
-      keyed = subst (λ rows. Finds keyed.by_key (HasText (map row_of rows) (HasKeyText entries))) c.deref-4.ensures.value c.in_ok-keyed.ensures.keyed;
-      filed = subst (λ rows. Finds keyed.by_file_set (HasText (map row_of rows) HasFileSet)) c.deref-4.ensures.value c.in_ok-keyed.ensures.filed;
+      first = subst (λ rows. AreFirstsOfKeys (map row_of rows) entries keyed.firsts.items) c.deref-2.ensures.value c.in_ok-keyed.ensures.firsts;
+      keyed = subst (λ rows. Finds keyed.by_key (HasText (map row_of rows) (HasKeyText entries))) c.deref-2.ensures.value c.in_ok-keyed.ensures.keyed;
+      filed = subst (λ rows. Finds keyed.by_file_set (HasText (map row_of rows) HasFileSet)) c.deref-2.ensures.value c.in_ok-keyed.ensures.filed;
       separated = c.separators_in.ensures;
     }
