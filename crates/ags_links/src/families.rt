@@ -155,7 +155,10 @@ fn rows_by_key(filed: &FiledRows<'_, '_, '_, '_>) -> Result<Lookup, AllocError>
 }
 
 /// For each row the first row of its group with an equal key (Rule 10a).
-fn firsts_of_keys(filed: &FiledRows<'_, '_, '_, '_>, by_key: &Lookup) -> Result<Vec<u32>, AllocError>
+fn firsts_of_keys(
+    filed: &FiledRows<'_, '_, '_, '_>,
+    by_key: &Lookup,
+) -> Result<Vec<u32>, AllocError>
     requires { Finds by_key.now (HasText (map row_of filed.now.rows.now) (HasKeyText filed.now.dictionary.now)) }
     ensures { IfOk result (λ firsts.
         AreFirstsOfKeys (map row_of filed.now.rows.now) filed.now.dictionary.now firsts.items) }

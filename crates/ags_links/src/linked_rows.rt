@@ -31,7 +31,11 @@ impl<'l, 's, 'f, 'd> LinkedRows<'l, 's, 'f, 'd> {
     }
 
     /// Puts the row's entries under its link headings into `text`, as one text.
-    pub(crate) fn write_link_text(&self, number: usize, text: &mut Vec<u8>) -> Result<(), AllocError>
+    pub(crate) fn write_link_text(
+        &self,
+        number: usize,
+        text: &mut Vec<u8>,
+    ) -> Result<(), AllocError>
         requires { number < length self.now.filed.rows.now }
         ensures { OnOk result (IsLinkText self.now.filed.rows.now self.now.of_groups.items number text.new.items) }
     {

@@ -26,7 +26,10 @@ pub(crate) struct ListedParents {
 }
 
 /// The parent rows of each row. The rows by group are dropped once these are listed.
-pub(crate) fn listed_parents(filed: &FiledRows<'_, '_, '_, '_>, groups: &[Group<'_>]) -> Result<ListedParents, AllocError>
+pub(crate) fn listed_parents(
+    filed: &FiledRows<'_, '_, '_, '_>,
+    groups: &[Group<'_>],
+) -> Result<ListedParents, AllocError>
     requires placed { All (IsPlaced groups.now) filed.now.rows.now }
     requires families { AreFamilies filed.now.dictionary.now groups.now filed.now.families.now }
     ensures { IfOk result (λ listed.

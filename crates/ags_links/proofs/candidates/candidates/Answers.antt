@@ -47,4 +47,3 @@ loop-place-preserved c =
 
 pub row-requires : goal.row-requires
 row-requires c = c.requires.numbers.0 0 0 (some_items c.args.links.now.rows.now c.is_empty.result c.is_empty.ensures c.if-is_empty.false)
-

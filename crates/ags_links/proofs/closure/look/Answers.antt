@@ -12,4 +12,3 @@ loop-target-preserved c =
       ];
       turns = omega arith;
     }
-

@@ -12,4 +12,3 @@ loop-row-preserved c = elim c.if-marked.branch [
 
 pub returns-clause-all : goal.returns-clause-all
 returns-clause-all c = λ r h. c.loop-row.invariant.all r (omega (arith, marked_below c.args.marks.now r h)) h
-

@@ -21,4 +21,3 @@ loop-number-preserved c =
     rw c.in_ok-push.ensures.items
     (kept_next (λ place. IsEntryUnder rows heading) numbers i c.loop-number.entries.items n c.field.result c.loop-number-test.true (sym (read_at numbers i 0 c.loop-number-test.true).1) c.loop-number.invariant
     (λ other at. under ∙ ap (λ (r : PlacedRow). entry_of (row_of r) heading) (one_at rows n row other c.row.ensures.row at)))
-

@@ -11,4 +11,3 @@ pub returns-clause-kept : goal.returns-clause-kept
 returns-clause-kept c =
     rows_have c.args.dictionary.now c.args.groups.now c.loop-group.families.items c.args.rows.now
     (kept_all (λ place. IsFamily c.args.dictionary.now) c.args.groups.now c.loop-group.group-index c.loop-group.families.items c.loop-group-test.false c.loop-group.invariant) c.requires
-

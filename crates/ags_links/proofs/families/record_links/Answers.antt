@@ -18,4 +18,3 @@ loop-heading-preserved c =
       | then-eq+in_ok-push w ↦ rw w.places-is (place_taken (place_in headings) is_link c.loop-heading.places.items w.push.new.self.items names i d c.find-place.result c.loop-heading-test.true c.loop-heading.invariant (tested ∙ w.if-eq.true) c.find-place.ensures w.in_ok-push.ensures.items)
       | else-eq w ↦ rw w.places-is (place_passed (place_in headings) is_link c.loop-heading.places.items names i d c.loop-heading-test.true c.loop-heading.invariant (tested ∙ w.if-eq.false))
     ]
-

@@ -12,4 +12,3 @@ pub loop-place-preserved : goal.loop-place-preserved
 loop-place-preserved c =
     rw c.in_ok-push.ensures.items
     (kept_next (λ place. IsParentLinks c.args.filed.now.dictionary.now c.args.by_group.now) c.args.groups.now c.loop-place.place c.loop-place.links.items c.index-groups-place.result c.in_ok-parent_links_of.field-0 c.loop-place-test.true c.index-groups-place.is c.loop-place.invariant c.in_ok-parent_links_of.ensures)
-

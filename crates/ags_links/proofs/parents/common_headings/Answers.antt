@@ -15,4 +15,3 @@ loop-heading-preserved c =
       | then-is_some+in_ok-push w ↦ rw w.common-is (heading_taken (is_one_of c.args.keys.now) c.loop-heading.common.items w.push.new.self.items names i d c.loop-heading-test.true c.loop-heading.invariant (tested ∙ w.if-is_some.true) w.in_ok-push.ensures.items)
       | else-is_some w ↦ rw w.common-is (heading_passed (is_one_of c.args.keys.now) c.loop-heading.common.items names i d c.loop-heading-test.true c.loop-heading.invariant (tested ∙ w.if-is_some.false))
     ]
-

@@ -25,4 +25,3 @@ loop-place-preserved c =
           ∙ ap (λ (f : Family). map (place_in f.headings) (link_names c.index-links-place.result)) (sym c.index-families-place.is ∙ is),
       c.first_with.ensures,
     ))
-

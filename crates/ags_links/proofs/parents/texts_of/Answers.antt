@@ -11,4 +11,3 @@ loop-of_group-preserved c =
     let item = c.of_group-item.result in
     map_more (λ (l : ParentLinks). l.text.items) [] (texts old) (texts c.push.new.self.items) c.args.links.now c.loop-of_group.of_group-index item c.loop-of_group-test.true c.loop-of_group.invariant
     (ap texts c.in_ok-push.ensures.items ∙ map-append (λ (h : Bor (List ℕ)). h.now) old _ ∙ ap (λ t. texts old ++ t ∷ []) (c.as_slice.ensures.value ∙ ap (λ (l : ParentLinks). l.text.items) c.of_group-item.is))
-

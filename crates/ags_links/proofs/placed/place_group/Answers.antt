@@ -15,4 +15,3 @@ loop-row-preserved c =
       rows = map-append row_of c.loop-row.rows.items _
           ∙ mapped_more (row_in (group_contents c.index-groups-place.result)) fields_of (map row_of c.args.rows.now.items) (map row_of c.loop-row.rows.items) c.as_slice-row-items.result.now c.loop-row.row-index c.row-item.result c.loop-row-test.true c.row-item.is c.loop-row.invariant.rows;
     })
-

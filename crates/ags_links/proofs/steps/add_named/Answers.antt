@@ -17,4 +17,3 @@ loop-part-preserved c =
     let old = c.args.found.now.items in
     subst (λ ps. AddsRows old c.extend_from_slice.new.self.items (IsNamedAmong file ps)) (sym (texts_next items i no_text c.loop-part-test.true))
     (among_next file old c.loop-part.found.items c.extend_from_slice.new.self.items c.in_ok-rows.rows.now (texts (take i items)) (get_or items i no_text).now c.loop-part.invariant c.in_ok-rows.ensures c.in_ok-extend_from_slice.ensures.items)
-
