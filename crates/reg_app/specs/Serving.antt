@@ -7,6 +7,7 @@ use Rattle.reg_desk.specs.Asked.{Asked}
 use Rattle.reg_desk.specs.Desks.{AnsweredBy, AreOfModel}
 use Rattle.reg_desk.specs.declared.answer.Answer.{Answer}
 use Rattle.reg_desk.specs.declared.desk.Desk.{Desk}
+use Rattle.reg_cli.specs.declared.files.Rights.{Rights}
 use Rattle.reg_http.specs.Reading.{ReadAs, request}
 use Rattle.reg_app.specs.declared.reload.Look.{Look}
 use Rattle.reg_app.specs.declared.reload.Look.TheVariants.{Anew}
@@ -22,6 +23,12 @@ module _ {K : Type 0} {keep : KeepGhosts K} where
     pub same_store : new.keep ≡ old.keep
     pub same_failure : new.failed ≡ old.failed
     pub new_policy : old.failed ≡ false → new.policy ≡ policy
+
+  -- a desk over this store, which has not failed, under this policy
+  pub record IsFirst (store : K) (policy : List Rule) (desk : Desk K keep) : Type 0 where
+    pub over_store : desk.keep ≡ store
+    pub under_policy : desk.policy ≡ policy
+    pub works : desk.failed ≡ false
 
   -- what a look does to a desk: nothing, unless other rights are read
   abbrev pub Applies : {L : Type 0} → Look L → Desk K keep → Desk K keep → Type 0
@@ -89,6 +96,12 @@ module _ {K L R : Type 0} {keep : KeepGhosts K} (looks : R → Look L → R → 
   abbrev pub ServesOn : R → R → Desk K keep → List Credential → K → Type 0
   ServesOn source reload first known kept = (period : Period keep) × (desk : Desk K keep) × (callers : List Credential)
       × Serves first known source period desk callers reload × (kept ≡ desk.keep)
+
+-- Connections were served from this store on, at first by a desk under these rights that had not failed, and what is
+-- kept is its store at the end.
+abbrev pub ServesFrom : {K L R : Type 0} → KeepGhosts K → (R → Look L → R → Type 0) → R → R → K → Rights → K → Type 0
+ServesFrom {K} {L} {R} keep looks source reload store rights kept = (first : Desk K keep)
+    × IsFirst store rights.policy first × ServesOn looks source reload first rights.callers kept
 
 -- What is answered between two reloads, or since the last one, is a run of the reference model under the policy of the
 -- desk at its begin, and each receipt and each answered withdrawal in it survives a crash.

@@ -26,5 +26,5 @@ pub use listener::Listener;
 pub use log::Log;
 pub use progress::ProgressLines;
 pub use reload::{Look, Reload};
-pub use serving::{Running, Serving, serve_on};
+pub use serving::{Running, Serving, Start, serve_keep, serve_on};
 pub use stores::Registers;

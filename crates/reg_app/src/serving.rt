@@ -1,7 +1,7 @@
 //! A register that is served over connections.
 
 ghost use Rattle.std.specs.Prelude.{◌≡◌, false};
-ghost use Rattle.reg_app.specs.Serving.{AsksOnce, GoesOn, IsReloaded, Looks, ServesOn};
+ghost use Rattle.reg_app.specs.Serving.{AsksOnce, GoesOn, IsReloaded, Looks, ServesFrom, ServesOn};
 
 use crate::commands::{Machine, open_shown, tell_if_nearly_full};
 use crate::connection::{drain_peer, serve_accepted};
@@ -283,11 +283,11 @@ pub(crate) fn serve_register<'w, G: Registers, W: Write, E: Write>(
     };
     let log = open_log(rt, service)?;
     let kept = open_shown(rt, machine, service.store, service.shows_progress, err)?;
-    let (served, kept) = serve_keep(
-        rt, service, &serving, kept, rights, log, &mut sign, out, err,
-    );
+    let start = Start { kept, rights, log };
+    let (served, kept) = serve_keep(rt, service, &serving, start, &mut sign, out, err);
     G::close(kept);
-    served
+    served?;
+    Ok(0)
 }
 
 /// The day of the requests, if it is not that of the clock.
@@ -298,53 +298,64 @@ fn given_day(service: &Service<'_>, today: Option<Day>) -> Result<Option<Day>, F
     Ok(Some(day_or(service.day, today)?))
 }
 
-/// Listens, and serves from a store, which is returned.
-fn serve_keep<'w, K: Keep + NextStart, R: Reload<'w, File>, W: Write, E: Write>(
+/// What serves at first: a store, rights and a log.
+#[derive(Drop)]
+pub struct Start<K> {
+    pub kept: K,
+    pub rights: Rights,
+    pub log: Option<Log<File>>,
+}
+
+/// Listens, and serves from the store, at first under these rights. The store is returned.
+pub fn serve_keep<'w, K: Keep + NextStart, R: Reload<'w, File>, W: Write, E: Write>(
     rt: &HostRuntime,
     service: &Service<'w>,
     serving: &Serving,
-    keep: K,
-    rights: Rights,
-    log: Option<Log<File>>,
+    start: Start<K>,
     reload: &mut R,
     out: &mut Watched<W>,
     err: &mut Watched<E>,
-) -> (Result<u8, Failure<'w>>, K)
-    requires { K.has_failed keep ≡ false }
+) -> (Result<(), Failure<'w>>, K)
+    requires { K.has_failed start.kept ≡ false }
+    ensures { ServesFrom K.Keep R.looks reload.old reload.new start.kept start.rights result.1 }
 {
+    let Start { kept, rights, log } = start;
     let Rights {
         policy,
         callers,
         digests,
     } = rights;
+    let desk = Desk::new(kept, policy);
     let mut log = log;
-    let listening = listen(rt, service.place, &digests, &mut log, out);
-    let listener = match listening {
-        Ok(listener) => listener,
-        Err(failure) => return (Err(failure), keep),
-    };
-    let running = Running {
-        desk: Desk::new(keep, policy),
-        callers,
-        log,
-    };
-    let (served, keep) = serve_on(
-        rt.alloc(),
-        rt,
-        &listener,
-        serving,
-        running,
-        reload,
-        out,
-        err,
-    );
-    if let Place::Socket(path) = service.place {
+    match listen(rt, service.place, &digests, &mut log, out) {
+        Ok(listener) => {
+            let running = Running { desk, callers, log };
+            let (served, kept) = serve_on(
+                rt.alloc(),
+                rt,
+                &listener,
+                serving,
+                running,
+                reload,
+                out,
+                err,
+            );
+            (end_listening(rt, service.place, served), kept)
+        }
+        Err(failure) => (Err(failure), desk.into_keep()),
+    }
+}
+
+/// Removes the file of the socket that was listened on, if it was one, and gives how the serving ended.
+fn end_listening<'w>(
+    rt: &HostRuntime,
+    place: Place<'w>,
+    served: Result<(), Fault>,
+) -> Result<(), Failure<'w>> {
+    if let Place::Socket(path) = place {
         let _removed = fs::remove_file(rt, path);
     }
-    match served {
-        Ok(()) => (Ok(0), keep),
-        Err(fault) => (Err(Failure::Plain(fault)), keep),
-    }
+    Ok(served?)
 }
 
 /// Writes that `serve` starts, listens, and prints where.

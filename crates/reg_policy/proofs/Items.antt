@@ -11,8 +11,8 @@ use Rattle.toml.proofs.Lines.{data_of_array, data_of_table}
 use Rattle.toml.specs.declared.value.Value.{Value}
 use Rattle.reg_policy.specs.Documents.{all_items, all_keys, have_known_keys, is_known_key, is_known, Each, InTable, TablesSay}
 use Rattle.reg_policy.specs.Readers.{Gives}
-use Rattle.reg_policy.specs.declared.document.ReadError.{ReadError}
-use Rattle.reg_policy.specs.declared.document.ReadError.TheVariants.{BadValue}
+use Rattle.reg_policy.specs.declared.error.ReadError.{ReadError}
+use Rattle.reg_policy.specs.declared.error.ReadError.TheVariants.{BadValue}
 use Rattle.std.specs.Str.{bytes_eq}
 
 -- a value whose accessor gives a table or an array

@@ -4,7 +4,7 @@ use Rattle.toml.specs.Data.{Data, string, as_str}
 use Rattle.reg_policy.specs.Days.{Writes, is_day_number}
 use Rattle.reg_policy.specs.Rules.{IsDayAt}
 use Rattle.reg_policy.specs.Readers.{GivesText}
-use Rattle.reg_policy.specs.declared.document.ReadError.TheVariants.{BadValue}
+use Rattle.reg_policy.specs.declared.error.ReadError.TheVariants.{BadValue}
 
 text_in : (d : Data) (t : Bor (List ℕ)) → as_str d ≡ Some t.now → GivesText (Some d) (Ok (Some t))
 text_in (string s) t e = let f : s ≡ t.now = cc in (ap Some (sym f), refl)

@@ -7,10 +7,10 @@ use Rattle.reg_policy.specs.Documents.{IsListOf, IsRefused}
 use Rattle.reg_policy.specs.Names.{is_name, is_token}
 use Rattle.reg_policy.specs.declared.callers.Caller.{Caller}
 use Rattle.reg_policy.specs.declared.callers.Credential.{Credential}
-use Rattle.reg_policy.specs.declared.callers.CallersError.{CallersError}
-use Rattle.reg_policy.specs.declared.callers.CallersError.TheVariants.{Syntax, UnknownKey, BadValue, DuplicateToken, NoMemory}
-use Rattle.reg_policy.specs.declared.document.ReadError.{ReadError}
-use Rattle.reg_policy.specs.declared.document.ReadError.TheVariants as ReadErrors
+use Rattle.reg_policy.specs.declared.error.CallersError.{CallersError}
+use Rattle.reg_policy.specs.declared.error.CallersError.TheVariants.{Syntax, UnknownKey, BadValue, DuplicateToken, NoMemory}
+use Rattle.reg_policy.specs.declared.error.ReadError.{ReadError}
+use Rattle.reg_policy.specs.declared.error.ReadError.TheVariants as ReadErrors
 
 -- the array of the callers, and the keys of a caller
 abbrev pub caller_key : List ℕ

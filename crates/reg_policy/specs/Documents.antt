@@ -4,8 +4,8 @@ use Rattle.std.specs.List.{list_any}
 use Rattle.std.specs.Str.{bytes_eq}
 use Rattle.toml.specs.Data.{Data, array, table, Items, no_items, item, Members, no_members, member, get_member}
 use Rattle.toml.specs.Parse.{parse_document}
-use Rattle.reg_policy.specs.declared.document.ReadError.{ReadError}
-use Rattle.reg_policy.specs.declared.document.ReadError.TheVariants.{Syntax, UnknownKey, BadValue, NoMemory}
+use Rattle.reg_policy.specs.declared.error.ReadError.{ReadError}
+use Rattle.reg_policy.specs.declared.error.ReadError.TheVariants.{Syntax, UnknownKey, BadValue, NoMemory}
 
 -- one of these keys
 abbrev pub is_known_key : List (List ℕ) → List ℕ → Bool

@@ -10,8 +10,8 @@ use Rattle.toml.specs.Parse.{parse_document}
 use Rattle.toml.specs.View.{table_view}
 use Rattle.toml.specs.declared.value.Value.{Value}
 use Rattle.reg_policy.specs.Documents.{IsDocument, IsListOf, IsRefused, is_known}
-use Rattle.reg_policy.specs.declared.document.ReadError.{ReadError}
-use Rattle.reg_policy.specs.declared.document.ReadError.TheVariants.{Syntax, UnknownKey, BadValue, NoMemory}
+use Rattle.reg_policy.specs.declared.error.ReadError.{ReadError}
+use Rattle.reg_policy.specs.declared.error.ReadError.TheVariants.{Syntax, UnknownKey, BadValue, NoMemory}
 
 -- a reader of one part, where P tells which value the part has: it is bad exactly where it has none
 abbrev pub Gives : {A : Type 0} → (A → Type 0) → Result A ReadError → Type 0

@@ -12,10 +12,10 @@ use Rattle.reg_policy.specs.declared.rule.Rule.{Rule}
 use Rattle.reg_policy.specs.declared.rule.Effect.{Effect}
 use Rattle.reg_policy.specs.declared.rule.Effect.TheVariants.{Permit, Deny}
 use Rattle.reg_policy.specs.declared.subject.Verb.{Verb}
-use Rattle.reg_policy.specs.declared.document.ReadError.{ReadError}
-use Rattle.reg_policy.specs.declared.document.ReadError.TheVariants as ReadErrors
-use Rattle.reg_policy.specs.declared.policy.PolicyError.{PolicyError}
-use Rattle.reg_policy.specs.declared.policy.PolicyError.TheVariants.{Syntax, UnknownKey, BadValue, Order, NoMemory}
+use Rattle.reg_policy.specs.declared.error.ReadError.{ReadError}
+use Rattle.reg_policy.specs.declared.error.ReadError.TheVariants as ReadErrors
+use Rattle.reg_policy.specs.declared.error.PolicyError.{PolicyError}
+use Rattle.reg_policy.specs.declared.error.PolicyError.TheVariants.{Syntax, UnknownKey, BadValue, Order, NoMemory}
 
 -- the array of a policy, and the keys of a rule
 abbrev pub rule_key : List ℕ

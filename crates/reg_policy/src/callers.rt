@@ -4,52 +4,19 @@ ghost use Rattle.std.specs.List.{list_all};
 ghost use Rattle.std.specs.Str.{bytes_eq};
 ghost use Rattle.toml.specs.Data.{get_member};
 ghost use Rattle.toml.specs.View.{table_view};
-ghost use Rattle.reg_policy.specs.Callers.{IsCaller, IsText, ReadsCallers, are_unique, caller_key, caller_keys, caller_of, callers_error};
+ghost use Rattle.reg_policy.specs.Callers.{IsCaller, IsText, ReadsCallers, are_unique, caller_key, caller_keys, caller_of};
 ghost use Rattle.reg_policy.specs.Names.{is_name, is_token, is_token_byte};
 ghost use Rattle.reg_policy.specs.Readers.{Gives};
 ghost use Rattle.reg_policy.specs.declared.callers.Credential.{Credential as CredentialValue};
 
-use crate::document::{FromTable, ReadError, copied, read_list, string_at};
-use crate::{Name, NameError};
+use crate::Name;
+use crate::document::{FromTable, copied, read_list, string_at};
+use crate::error::{CallersError, NameError, ReadError};
 use ags_text::{Bytes, is_within};
 use std::alloc::Global;
 use std::collections::BTreeSet;
 use std::marker::Model;
-use thiserror::Error;
 use toml::Table;
-
-/// Why a text is not read as callers. Each is looked for in the whole document before the next.
-#[derive(Clone, Copy, Debug, PartialEq, Eq, Error)]
-pub enum CallersError {
-    /// It is no TOML.
-    #[error("not TOML")]
-    Syntax,
-    /// A key is none of the callers or of a caller.
-    #[error("unknown key")]
-    UnknownKey,
-    /// A value is of a wrong kind or form, or missing.
-    #[error("bad value")]
-    BadValue,
-    /// Two callers have one token.
-    #[error("a token stands twice")]
-    DuplicateToken,
-    /// Memory was refused.
-    #[error("out of memory")]
-    NoMemory,
-}
-
-impl From<ReadError> for CallersError {
-    ghost from_gives = { λ error e. e ≡ callers_error error };
-
-    fn from(error: ReadError) -> CallersError {
-        match error {
-            ReadError::Syntax => CallersError::Syntax,
-            ReadError::UnknownKey => CallersError::UnknownKey,
-            ReadError::BadValue => CallersError::BadValue,
-            ReadError::NoMemory => CallersError::NoMemory,
-        }
-    }
-}
 
 /// Who speaks.
 #[derive(Drop)]

@@ -6,22 +6,10 @@ ghost use Rattle.toml.specs.View.{items_view, table_view, view};
 ghost use Rattle.reg_policy.specs.Documents.{Each, InTable, TablesSay, all_keys, has_known_keys, have_known_keys, is_known_key, is_known};
 ghost use Rattle.reg_policy.specs.Readers.{Gives, GivesCopy, GivesList, GivesText, Opens, ReadsList};
 
+use crate::error::ReadError;
 use ags_text::{Bytes, copy};
 use std::alloc::Global;
 use toml::{Table, Value};
-
-/// Why a document, or a part of it, cannot be read.
-#[derive(Clone, Copy)]
-pub(crate) enum ReadError {
-    /// The text is no TOML.
-    Syntax,
-    /// A key is none of those that may be there.
-    UnknownKey,
-    /// A value is of a wrong kind or form, or missing.
-    BadValue,
-    /// Memory was refused.
-    NoMemory,
-}
 
 /// What a table of the array says.
 pub(crate) trait FromTable: Sized + Drop {

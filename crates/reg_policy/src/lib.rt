@@ -6,6 +6,7 @@
 mod callers;
 mod day;
 mod document;
+mod error;
 pub mod laws;
 mod name;
 mod period;
@@ -14,8 +15,9 @@ mod rule;
 mod rules;
 mod subject;
 
-pub use callers::{Caller, Callers, CallersError};
+pub use callers::{Caller, Callers};
 pub use day::Day;
-pub use name::{Name, NameError};
-pub use policy::{Policy, PolicyError};
+pub use error::{CallersError, NameError, PolicyError};
+pub use name::Name;
+pub use policy::Policy;
 pub use subject::{Decision, RowFacts, Subject, Verb};

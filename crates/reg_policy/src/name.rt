@@ -9,23 +9,12 @@ ghost use Rattle.std.specs.Str.{bytes_eq};
 ghost use Rattle.std.proofs.Common.{rules};
 ghost use Rattle.reg_policy.specs.Names.{is_name, is_name_byte};
 
+use crate::error::NameError;
 use ags_text::is_within;
 use arrayvec::ArrayString;
 use std::alloc::{AllocError, Global};
 use std::cmp::Ordering;
 use std::marker::Model;
-use thiserror::Error;
-
-/// Why a text is not read as a name.
-#[derive(Clone, Copy, Debug, PartialEq, Eq, Error)]
-pub enum NameError {
-    /// It is no name.
-    #[error("not a name")]
-    BadName,
-    /// Memory was refused.
-    #[error("out of memory")]
-    NoMemory,
-}
 
 /// The name of a firm, a role or a project: 1 to 32 letters, digits, `-` and `_`. Names compare by their bytes.
 #[derive(Drop)]

@@ -1,48 +1,15 @@
 //! A policy: a list of rules, of which the first that matches decides.
 ghost use Rattle.std.specs.Prelude.{◌≡◌, ◌↔◌, List, All, IsTrue};
 ghost use Rattle.reg_policy.specs.Decision.{Matches, decision_of};
-ghost use Rattle.reg_policy.specs.Rules.{IsRisingFrom, ReadsPolicy, policy_error};
+ghost use Rattle.reg_policy.specs.Rules.{IsRisingFrom, ReadsPolicy};
 ghost use Rattle.reg_policy.specs.declared.rule.Rule.{Rule as RuleValue};
 
-use crate::document::{ReadError, read_list};
+use crate::document::read_list;
+use crate::error::PolicyError;
 use crate::rule::Rule;
 use crate::{Decision, Subject};
 use std::alloc::Global;
 use std::marker::Model;
-use thiserror::Error;
-
-/// Why a text is not read as a policy. Each is looked for in the whole document before the next.
-#[derive(Clone, Copy, Debug, PartialEq, Eq, Error)]
-pub enum PolicyError {
-    /// It is no TOML.
-    #[error("not TOML")]
-    Syntax,
-    /// A key is none of a policy or of a rule.
-    #[error("unknown key")]
-    UnknownKey,
-    /// A value is of a wrong kind or form, or missing.
-    #[error("bad value")]
-    BadValue,
-    /// The numbers of the rules do not rise strictly.
-    #[error("the numbers do not rise")]
-    Order,
-    /// Memory was refused.
-    #[error("out of memory")]
-    NoMemory,
-}
-
-impl From<ReadError> for PolicyError {
-    ghost from_gives = { λ error e. e ≡ policy_error error };
-
-    fn from(error: ReadError) -> PolicyError {
-        match error {
-            ReadError::Syntax => PolicyError::Syntax,
-            ReadError::UnknownKey => PolicyError::UnknownKey,
-            ReadError::BadValue => PolicyError::BadValue,
-            ReadError::NoMemory => PolicyError::NoMemory,
-        }
-    }
-}
 
 /// The rules of a policy, in the order of the text. Their numbers rise from 1.
 pub struct Policy {

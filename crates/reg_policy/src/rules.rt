@@ -8,10 +8,11 @@ ghost use Rattle.reg_policy.specs.Readers.{Gives, GivesWord};
 ghost use Rattle.reg_policy.specs.Rules.{IsDayAt, IsPeriodIn, IsEffect, IsEither, IsEntryIn, IsNumber, IsRule, IsVerb, IsWord, IsSettingOf, rule_key, rule_keys};
 ghost use Rattle.reg_policy.specs.declared.subject.Verb.{Verb as VerbValue};
 
-use crate::document::{FromTable, ReadError, copied, string_at};
+use crate::document::{FromTable, copied, string_at};
+use crate::error::{NameError, ReadError};
 use crate::period::Period;
 use crate::rule::{Effect, Rule, WantedEntry};
-use crate::{Day, Name, NameError, Verb};
+use crate::{Day, Name, Verb};
 use ags_text::{Bytes, is_group_name, is_heading_name};
 use std::alloc::Global;
 use toml::Table;

@@ -3,8 +3,8 @@ use Rattle.std.proofs.lemmas.Bool.{false≢true}
 use Rattle.std.proofs.lemmas.Result.{err_from_is_err_and}
 use Rattle.reg_policy.specs.Documents.{IsRefused}
 use Rattle.reg_policy.specs.Rules.{IsRisingFrom, IsRule, ReadsPolicy, policy_error, rule_key, rule_keys}
-use Rattle.reg_policy.specs.declared.document.ReadError.{ReadError}
-use Rattle.reg_policy.specs.declared.document.ReadError.TheVariants.{Syntax, UnknownKey, BadValue, NoMemory}
+use Rattle.reg_policy.specs.declared.error.ReadError.{ReadError}
+use Rattle.reg_policy.specs.declared.error.ReadError.TheVariants.{Syntax, UnknownKey, BadValue, NoMemory}
 use Rattle.reg_policy.proofs.policy.Policy.read.Goals as goal
 
 -- a refusal of a document of rules is one of a policy
