@@ -1,4 +1,4 @@
-use Rattle.std.proofs.Common.{◌≡◌, ◌∙◌, true, false, not, List, [], ◌∷◌, ℕ, get_or, sym, ap}
+use Rattle.std.proofs.Common.{◌≡◌, ◌∙◌, not, List, [], ◌∷◌, ℕ, get_or, sym, ap}
 use Rattle.std.proofs.lemmas.Bool.{not-true, not-false}
 use Rattle.ags_rows.specs.declared.code.Code.TheVariants.{Rule11c}
 use Rattle.ags_rows.specs.Collecting.{Adds, Notes}
