@@ -1,6 +1,6 @@
 //! What the index keeps for each group: where its headings are; and the rows by group, by key and by file set.
 
-ghost use Rattle.std.specs.Prelude.{◌≡◌, ◌<◌, ◌^◌, IfOk, All, length, map};
+ghost use Rattle.std.specs.Prelude.{◌≡◌, ◌<◌, IfOk, All, map};
 ghost use Rattle.ags_rows.specs.Contents.{place_in};
 ghost use Rattle.ags_links.specs.Keys.{AreFirstsOfKeys};
 ghost use Rattle.ags_links.specs.Lookups.{Finds};

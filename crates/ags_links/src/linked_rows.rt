@@ -1,6 +1,6 @@
 //! Filed rows with the link places of their groups, as the look-ups of parent rows are made of them.
 
-ghost use Rattle.std.specs.Prelude.{◌≡◌, ◌<◌, All, OnOk, length};
+ghost use Rattle.std.specs.Prelude.{◌<◌, All, OnOk, length};
 ghost use Rattle.ags_rows.specs.Collecting.{At};
 ghost use Rattle.ags_links.specs.ParentRows.{HasPlaces, IsLinkText};
 

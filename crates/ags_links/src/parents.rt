@@ -1,13 +1,13 @@
 //! The rows of the parent groups by their entries under link headings. Groups with one parent group and the same
 //! link headings share one look-up, so that the rows of a parent group are not read again for each of them.
 
-ghost use Rattle.std.specs.Prelude.{◌≡◌, ◌<◌, ◌^◌, ◌↔◌, ℕ, Contains, IfOk, OnOk, IsTrue, All, Some, length, map, filter};
+ghost use Rattle.std.specs.Prelude.{◌≡◌, ◌<◌, ◌↔◌, Contains, IfOk, OnOk, IsTrue, All, Some, length, map, filter};
 ghost use Rattle.std.specs.List.Sorted.{IsStrictlyIncreasing};
 ghost use Rattle.ags_rows.specs.Contents.{place_in};
 ghost use Rattle.ags_links.specs.EntryLists.{IsEntryList};
-ghost use Rattle.ags_links.specs.Families.{HasText, HasGroupName, HasFamily, IsFamily, AreFamilies, AreKept, is_one_of};
+ghost use Rattle.ags_links.specs.Families.{HasText, HasGroupName, IsFamily, AreFamilies, AreKept, is_one_of};
 ghost use Rattle.ags_links.specs.Lookups.{Finds, FindsAsked, pairs_of};
-ghost use Rattle.ags_links.specs.ParentRows.{AreLinkHeadingsIfRows, text_at, IsParentLinks, AreParentLinks, texts_in, AreNumbers, HasUsers, HaveUsers, HasPlaces, HasAskedAmong, HasLinkText, IsAskedIn, AddsAsked, AreTextsOf, ArePlacesIn, IsLookupAt, IsPlacedAt, IsInside, part_of};
+ghost use Rattle.ags_links.specs.ParentRows.{AreLinkHeadingsIfRows, text_at, IsParentLinks, AreParentLinks, texts_in, AreNumbers, HasUsers, HaveUsers, HasAskedAmong, HasLinkText, IsAskedIn, AddsAsked, AreTextsOf, ArePlacesIn, IsLookupAt, IsPlacedAt, IsInside, part_of};
 ghost use Rattle.ags_links.specs.Placing.{row_of, ListsTexts};
 
 use crate::candidates::candidates;
