@@ -1,5 +1,5 @@
 -- Tests of what the tables hold.
-use Rattle.std.proofs.Common.{zero, suc, IfErr, ◌⊎◌, inl, inr, ◌≡◌, ◌≢◌, ℕ, ◌+◌, ◌<◌, ◌≤◌, Bool, true, false, IsTrue, List, [], ◌∷◌, length, map, filter, get_or, Option, Some, None, is_some, IfSome, Result, Ok, Err, IfOk, refl, sym, ap, subst, subst₂, ◌∙◌, arith}
+use Rattle.std.proofs.Common.{zero, suc, IfErr, ◌⊎◌, inl, inr, ◌≡◌, ◌≢◌, ℕ, ◌+◌, ◌<◌, ◌≤◌, Bool, true, false, not, IsTrue, List, [], ◌∷◌, length, map, filter, get_or, Option, Some, None, is_some, IfSome, Result, Ok, Err, IfOk, refl, sym, ap, subst, subst₂, ◌∙◌, arith}
 use Rattle.std.proofs.Math.Logic.{∥∥₁_map, ∥∥₁_elim}
 use Rattle.std.proofs.Props.{props}
 use Rattle.std.specs.List.Sorted.{IsPermutation}
@@ -21,7 +21,7 @@ use Rattle.ags_rows.specs.declared.finding.Finding.{Finding}
 use Rattle.ags_dict.specs.Entries.{Entries}
 use Rattle.ags_check.specs.Findings.{CheckedFile, Findings}
 use Rattle.ags_check.proofs.Lemmas.{one_clean_file, one_list}
-use Rattle.reg_store.specs.declared.keep.KeepError.{KeepError}
+use Rattle.reg_tables.specs.declared.error.TableError.{TableError}
 use Rattle.reg_tables.specs.declared.open.head.DigestedHead.{DigestedHead}
 use Rattle.reg_tables.specs.declared.memory.digests.Digests.{Digests}
 use Rattle.reg_store.specs.declared.keep.KeptRow.{KeptRow}
@@ -75,8 +75,12 @@ pub counts_by : (db : Database) (rows : List Row) (found : Option ℕ) → IsPer
 counts_by db rows (Some count) all are few some none = (few, subst (λ r. IsPermutation r (map first_column (deposit_table db.trees))) some all)
 counts_by db rows None all are few some none = λ list low holds. none refl (length list) low (are list holds)
 
+pub counts_none : (db : Database) {found : Option ℕ} → ((count : ℕ) → found ≡ Some count → ⊥) → Counts db found → Counts db None
+counts_none db {found = None} none counts = counts
+counts_none db {found = Some count} none counts = absurd (none count refl)
+
 -- a second test, after which the tables are as they were
-pub tests_later : (r : Result Bool KeepError) (A : Type 0) (B : Database → Type 0) (old mid : Database) → mid ≡ old → Tests true A → IfOk r (λ is. Tests is (B mid)) → IfOk r (λ is. Tests is (A × B old))
+pub tests_later : (r : Result Bool TableError) (A : Type 0) (B : Database → Type 0) (old mid : Database) → mid ≡ old → Tests true A → IfOk r (λ is. Tests is (B mid)) → IfOk r (λ is. Tests is (A × B old))
 tests_later (Ok is) A B old mid same one two = tests_then is A B old mid same one two
 tests_later (Err e) A B old mid same one two = tt
 
@@ -84,7 +88,7 @@ tests_later (Err e) A B old mid same one two = tt
 pub known_of : (dictionary : Entries) (d : Sent) (file : CheckedFile) (known : KnownFile) → IsFileOf dictionary d file → IsKnownOf file known → KnowsFile dictionary d known
 known_of dictionary d file known its is other of = subst (λ (f : CheckedFile). IsKnownOf f known) (same_file dictionary d file other its of) is
 
-pub known_file : (r : Result (Option KnownFile) KeepError) (dictionary : Entries) (d : Sent) (file : CheckedFile) → IsFileOf dictionary d file → IfOk r (λ found. IfSome found (IsKnownOf file)) → IfOk r (λ found. IfSome found (KnowsFile dictionary d))
+pub known_file : (r : Result (Option KnownFile) TableError) (dictionary : Entries) (d : Sent) (file : CheckedFile) → IsFileOf dictionary d file → IfOk r (λ found. IfSome found (IsKnownOf file)) → IfOk r (λ found. IfSome found (KnowsFile dictionary d))
 known_file (Err e) dictionary d file its is = tt
 known_file (Ok None) dictionary d file its is = tt
 known_file (Ok (Some known)) dictionary d file its is = known_of dictionary d file known its is
@@ -96,7 +100,7 @@ file_tests {is} {so} db n lines own steps graph is_so lines_are steps_are test =
     subst (λ (b : Bool). Tests b (HoldsLines db n own × HoldsSteps db n graph)) is_so (subst₂ (λ (all : List KeptRow) (of : List (ℕ × ℕ)). Tests is (HoldsLines db n all × HoldsSteps db n of)) lines_are steps_are test)
 
 -- a deposit, by the lines and steps of its file
-pub body_tests : (r : Result (Option KnownFile) KeepError) (db : Database) (dictionary : Entries) (n : ℕ) (d : Sent) (file : CheckedFile) → IsFileOf dictionary d file
+pub body_tests : (r : Result (Option KnownFile) TableError) (db : Database) (dictionary : Entries) (n : ℕ) (d : Sent) (file : CheckedFile) → IsFileOf dictionary d file
     → IfOk r (λ found. Tests (is_some found) (HoldsLines db n (kept_rows file.groups) × HoldsSteps db n file.graph.steps)) → IfOk r (λ found. Tests (is_some found) (HoldsBody db dictionary n d))
 body_tests (Err e) db dictionary n d file its test = tt
 body_tests (Ok found) db dictionary n d file its test = tests_as (is_some found) _ (HoldsBody db dictionary n d) (λ held. record { file = file; its = its; lines = held.0; steps = held.1 }) back test
@@ -106,7 +110,7 @@ body_tests (Ok found) db dictionary n d file its test = tests_as (is_some found)
         let one = one_clean_file held.file file held.its.clean its.clean (held.its.given ∙ sym its.given) (held.its.bytes ∙ sym its.bytes) in
         subst (λ (f : CheckedFile). HoldsLines db n (kept_rows f.groups) × HoldsSteps db n f.graph.steps) one (held.lines, held.steps)
 
-pub whole_tests : (r : Result (Option DigestedHead) KeepError) (db mid : Database) (dictionary : Entries) (n : ℕ) (d : Sent) (rows : List Row) (digests : Digests) → mid ≡ db → IsPermutation rows (filter (has_number n) (deposit_table db.trees)) → rows ≡ given_deposit n d ∷ [] → IsNamed d
+pub whole_tests : (r : Result (Option DigestedHead) TableError) (db mid : Database) (dictionary : Entries) (n : ℕ) (d : Sent) (rows : List Row) (digests : Digests) → mid ≡ db → IsPermutation rows (filter (has_number n) (deposit_table db.trees)) → rows ≡ given_deposit n d ∷ [] → IsNamed d
     → AreBelow digests n → HoldsDigests db n digests → IfOk r (λ found. Tests (is_some found) (HoldsBody mid dictionary n d × IsNew mid (numbers_under digests (own_digest d)) d)) → IfOk r (λ found. Tests (is_some found) (IsWhole db dictionary n))
 whole_tests (Err e) db mid dictionary n d rows digests same found read named below held test = tt
 whole_tests (Ok one) db mid dictionary n d rows digests same found read named below held test =
@@ -139,7 +143,7 @@ pub only_shown : (db : Database) (dictionary : Entries) (n : ℕ) (rows : List R
 only_shown db dictionary n rows found w = one_permutation (given_deposit n w.deposit) rows (IsPermutation-sym _ _ (subst (λ all. IsPermutation rows all) w.row found))
 
 -- so what is known and the digest are those of the deposit
-pub head_shown : (r : Result (Option DigestedHead) KeepError) (db : Database) (dictionary : Entries) (n : ℕ) (kept : Sent) (rows : List Row) → IsPermutation rows (filter (has_number n) (deposit_table db.trees)) → rows ≡ given_deposit n kept ∷ []
+pub head_shown : (r : Result (Option DigestedHead) TableError) (db : Database) (dictionary : Entries) (n : ℕ) (kept : Sent) (rows : List Row) → IsPermutation rows (filter (has_number n) (deposit_table db.trees)) → rows ≡ given_deposit n kept ∷ []
     → IfOk r (λ found. IfSome found (IsDigestedFrom dictionary kept)) → IfOk r (λ found. IfSome found (IsDigestedAt db dictionary n))
 head_shown (Err e) db dictionary n kept rows found read its = tt
 head_shown (Ok None) db dictionary n kept rows found read its = tt
@@ -149,11 +153,19 @@ head_shown (Ok (Some one)) db dictionary n kept rows found read its = λ d row.
     subst (λ (x : Sent). IsDigestedFrom dictionary x one) same its)
 
 -- what is found under the digest shows whether a deposit is new
-pub new_tests : (db : Database) (numbers : List ℕ) (d : Sent) → HasNoEqual db numbers d.firm d.project d.bytes → Tests true (IsNew db numbers d)
+new_tests : (db : Database) (numbers : List ℕ) (d : Sent) → HasNoEqual db numbers d.firm d.project d.bytes → Tests true (IsNew db numbers d)
 new_tests db numbers d none = record { yes = λ e. ∣ none ∣₁; no = λ e. absurd cc }
 
-pub old_tests : (db : Database) (numbers : List ℕ) (d : Sent) (n : ℕ) → HasEqual db d.firm d.project d.bytes n → is_among n numbers ≡ true → Tests false (IsNew db numbers d)
+old_tests : (db : Database) (numbers : List ℕ) (d : Sent) (n : ℕ) → HasEqual db d.firm d.project d.bytes n → is_among n numbers ≡ true → Tests false (IsNew db numbers d)
 old_tests db numbers d n has among = record { yes = λ e. absurd cc; no = λ e none. absurd (let clash : true ≡ false = sym has.2 ∙ none n among has.0 has.1 in cc) }
+
+-- whether an equal deposit was found among those of these numbers
+pub repeat_tests : (db : Database) (numbers : List ℕ) (d : Sent) (content : List ℕ) (found : Option ℕ) (is : Bool) → content ≡ d.bytes → is_some found ≡ not is
+    → IfSome found (HasEqual db d.firm d.project content) → IfSome found (λ n. is_among n numbers ≡ true) → (found ≡ None → HasNoEqual db numbers d.firm d.project content) → Tests is (IsNew db numbers d)
+repeat_tests db numbers d content (Some n) false same e has among none = old_tests db numbers d n (subst (λ b. HasEqual db d.firm d.project b n) same has) among
+repeat_tests db numbers d content (Some n) true same e has among none = absurd cc
+repeat_tests db numbers d content None true same e has among none = new_tests db numbers d (subst (λ b. HasNoEqual db numbers d.firm d.project b) same (none refl))
+repeat_tests db numbers d content None false same e has among none = absurd cc
 
 pub tests_true : {is : Bool} {P : Type 0} → is ≡ true → Tests is P → Tests true P
 tests_true {is} {P} e test = subst (λ (b : Bool). Tests b P) e test
@@ -164,8 +176,9 @@ tests_false {is} {P} e test = subst (λ (b : Bool). Tests b P) e test
 pub tests_some : {X : Type 0} {found : Option X} {x : X} {P : Type 0} → found ≡ Some x → Tests (is_some found) P → Tests true P
 tests_some {X} {found} {x} {P} e test = subst (λ (o : Option X). Tests (is_some o) P) e test
 
-pub tests_empty : {X : Type 0} {found : Option X} {P : Type 0} → found ≡ None → Tests (is_some found) P → Tests false P
-tests_empty {X} {found} {P} e test = subst (λ (o : Option X). Tests (is_some o) P) e test
+pub tests_empty : {X : Type 0} {found : Option X} {P : Type 0} → ((x : X) → found ≡ Some x → ⊥) → Tests (is_some found) P → Tests false P
+tests_empty {found = None} none test = test
+tests_empty {found = Some x} none test = absurd (none x refl)
 
 pub tests_none : (P : Type 0) → (P → ⊥) → Tests false P
 tests_none P none = record { yes = λ e. absurd cc; no = λ e. none }

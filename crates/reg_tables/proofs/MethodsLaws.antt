@@ -15,7 +15,7 @@ use Rattle.ags_links.specs.Steps.{IsBefore, AreAscending, IsGraphOf, StepAt}
 use Rattle.ags_check.specs.Findings.{CheckedFile, file_of}
 use Rattle.reg_store.specs.declared.keep.Kept.{Kept}
 use Rattle.reg_store.specs.declared.keep.KeptRow.{KeptRow}
-use Rattle.reg_store.specs.declared.keep.KeepError.{KeepError}
+use Rattle.reg_tables.specs.declared.error.TableError.{TableError}
 use Rattle.reg_store.specs.Keep.{deposit_of, sent_of}
 use Rattle.reg_store.specs.Sent.{Sent}
 use Rattle.reg_store.specs.Deposit.{Deposit, sents}
@@ -43,7 +43,7 @@ slice_get_in (x ∷ xs) (suc k) low = slice_get_in xs k (omega (arith, low))
 deposit_as : (d : Deposit) (kept : Kept) → d.sent ≡ sent_of kept → kept.withdrawn ≡ d.withdrawn → d ≡ deposit_of kept
 deposit_as d kept sent mark = λ i. record { sent = sent i; withdrawn = sym mark i }
 
-pub deposit_read_at : {s : State} {dictionary : Entries} {count : ℕ} (n : ℕ) (r : Result Kept KeepError) → 0 < n
+pub deposit_read_at : {s : State} {dictionary : Entries} {count : ℕ} (n : ℕ) (r : Result Kept TableError) → 0 < n
     → n ≤ length (deposits_in s.committed.trees) → ∥ KeepsRegister s dictionary count ∥₁
     → IfOk r (λ kept. filter (has_number n) (deposit_table s.now.trees) ≡ given_deposit n (sent_of kept) ∷ [])
     → IfOk r (λ kept. (d : Deposit) → slice_get (deposits_in s.committed.trees) (n - 1) ≡ Some d
@@ -90,7 +90,7 @@ same_file dictionary d a b x y = one_clean_file a b x.clean y.clean (x.given ∙
 
 -- what is read of the file that the register holds of a deposit is so of each file of it
 pub of_file : {X Y : Type 0} (items : X → Y) (of : CheckedFile → Y) → ((a b : Y) → IsProp (a ≡ b)) → {s : State} {dictionary : Entries} {count : ℕ} (n : ℕ)
-    (r : Result X KeepError) → 0 < n → ∥ KeepsRegister s dictionary count ∥₁
+    (r : Result X TableError) → 0 < n → ∥ KeepsRegister s dictionary count ∥₁
     → IfOk r (λ x. (d : Sent) (file : CheckedFile) → IsFileOf dictionary d file
     → IsPermutation (placed_rows 0 (kept_rows file.groups)) (rows_under n (line_table s.now.trees))
     → IsPermutation (map step_pair file.graph.steps) (rows_under n (step_table s.now.trees)) → items x ≡ of file)
@@ -102,7 +102,7 @@ of_file items of set {s} {dictionary} {count} n (Ok x) low h read = λ d file at
 of_file items of set n (Err e) low h read = tt
 
 pub rows_at : {X : Type 0} (items : X → List KeptRow) {s : State} {dictionary : Entries} {count : ℕ} (n : ℕ)
-    (r : Result X KeepError) → 0 < n → ∥ KeepsRegister s dictionary count ∥₁
+    (r : Result X TableError) → 0 < n → ∥ KeepsRegister s dictionary count ∥₁
     → IfOk r (λ x. (rows : List KeptRow) → IsPermutation (placed_rows 0 rows) (rows_under n (line_table s.now.trees))
     → items x ≡ rows)
     → IfOk r (λ x. (d : Sent) (file : CheckedFile) → slice_get (sents (deposits_in s.committed.trees)) (n - 1) ≡ Some d
@@ -124,7 +124,7 @@ one_wiring a b p q = λ i. record { rows = p i; steps = q i }
 steps_set : (a b : List (ℕ × ℕ)) → IsProp (a ≡ b)
 steps_set a b = Prim.hlevel props
 
-pub graph_at : {s : State} {dictionary : Entries} {count : ℕ} (n : ℕ) (r : Result StepGraph KeepError) → 0 < n
+pub graph_at : {s : State} {dictionary : Entries} {count : ℕ} (n : ℕ) (r : Result StepGraph TableError) → 0 < n
     → ∥ KeepsRegister s dictionary count ∥₁
     → IfOk r (λ graph. (d : Sent) (file : CheckedFile) → slice_get (sents (deposits_in s.committed.trees)) (n - 1)
     ≡ Some d → IsFileOf dictionary d file → graph.rows ≡ file.graph.rows)

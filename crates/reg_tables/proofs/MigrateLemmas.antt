@@ -30,12 +30,11 @@ use Rattle.sqlite_schema.specs.declared.schema.Keys.TheVariants.{Enforced}
 use Rattle.ags_dict.specs.Entries.{Entries}
 use Rattle.reg_store.specs.Deposit.{Deposit, sents, new_deposit}
 use Rattle.reg_store.specs.Sent.{Sent}
-use Rattle.reg_store.specs.declared.keep.KeepError.{KeepError}
-use Rattle.reg_store.specs.declared.keep.KeepError.TheVariants as keep
-use Rattle.reg_store.specs.Keep.{is_store}
+use Rattle.reg_tables.specs.declared.error.TableError.{TableError}
+use Rattle.reg_tables.specs.declared.error.TableError.TheVariants as table
 use Rattle.reg_tables.specs.Private.Commits.{Makes}
 use Rattle.reg_tables.specs.declared.error.AdoptError.TheVariants.{Store}
-use Rattle.reg_tables.specs.Adoption.{adopt_error}
+use Rattle.reg_tables.specs.Private.Errors.{adopt_error, is_store}
 use Rattle.reg_tables.specs.Quiet.{IsStill}
 use Rattle.reg_tables.proofs.QuietLaws.{clean_before}
 use Rattle.reg_tables.specs.declared.schema.format.Format.TheVariants.{First, Second}
@@ -223,13 +222,12 @@ migrates_then start mid new dictionary memory quiet found crash =
     (λ clean db put. (let early = clean_before mid new crash clean in migrated_left start mid dictionary memory db (quiet.same early refl).0 (found early) put)) quiet.survives crash
 
 -- and what it leaves where that was refused
-pub refused_then : (start mid new : State) (dictionary : Entries) (memory : Memory) (e : KeepError) → (e ≡ keep.Full → ⊥) → IsStill start mid false → (HasCleanDisk mid → RecallsFirst start.now dictionary memory)
+pub refused_then : (start mid new : State) (dictionary : Entries) (memory : Memory) (e : TableError) → IsStill start mid false → (HasCleanDisk mid → RecallsFirst start.now dictionary memory)
     → Survives mid new (ChangesOf Migrates mid) → (is_store e ≡ false → Survives mid new (λ _. ⊥)) → Survives start new (λ trees. (adopt_error e ≡ Store) × IsMigrated start trees)
-refused_then start mid new dictionary memory keep.Full never quiet found crash none = absurd (never refl)
-refused_then start mid new dictionary memory keep.Store never quiet found crash none =
+refused_then start mid new dictionary memory table.Store quiet found crash none =
     survives_weaker start new _ _ (λ _ _ left. (refl, left)) (migrates_then start mid new dictionary memory quiet found crash)
-refused_then start mid new dictionary memory keep.NoMemory never quiet found crash none =
-    survives_then start mid new _ _ (λ trees. (adopt_error keep.NoMemory ≡ Store) × IsMigrated start trees) (λ _ db no. absurd no) (λ _ db no. absurd no) quiet.survives (none refl)
+refused_then start mid new dictionary memory table.NoMemory quiet found crash none =
+    survives_then start mid new _ _ (λ trees. (adopt_error table.NoMemory ≡ Store) × IsMigrated start trees) (λ _ db no. absurd no) (λ _ db no. absurd no) quiet.survives (none refl)
 
 pub found_first : {image : Image} {dictionary : Entries} {text : List ℕ} {list : List Deposit} (s : State) → Opens s → FindsIn image s
     → ∥ IsRegisterOf First s.now dictionary list ∥₁ × (text_in s.now.trees ≡ text) → ∥ FindsFirst image dictionary text list ∥₁

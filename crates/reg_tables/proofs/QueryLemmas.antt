@@ -1,6 +1,7 @@
 -- What a query of the register leaves of a connection.
 use Rattle.std.proofs.Common.{◌≡◌, refl, ap, ℕ, List, [], Bool, true, false, Option, Some, None, ◌⊎◌, Ok, Err, Result, IfOk, IfErr, OnOk, IsTrue, inl, inr, sym, subst, ◌∙◌, arith}
-use Rattle.std.proofs.lemmas.Result.{IfOk-weaker}
+use Rattle.std.proofs.lemmas.Result.{IfOk-weaker, err_from_is_err_and}
+use Rattle.std.specs.Result.{IsErrAnd}
 use Rattle.sqlite.specs.Order.{Row}
 use Rattle.sqlite.specs.declared.error.Error.{Error}
 use Rattle.sqlite.specs.declared.error.Error.TheVariants.{SqlInputError}
@@ -17,12 +18,12 @@ use Rattle.sqlite.proofs.Callers.{IsPlain, never_commits, unchanged_then}
 use Rattle.reg_tables.specs.Tables.{HasTables}
 use Rattle.reg_tables.specs.Private.Meaning.{IsPlainText}
 use Rattle.reg_tables.specs.Private.Found.{OnlyShows}
-use Rattle.reg_store.specs.declared.keep.KeepError.{KeepError}
-use Rattle.reg_store.specs.declared.keep.KeepError.TheVariants as keep
-use Rattle.reg_store.specs.Keep.{is_store}
+use Rattle.reg_tables.specs.declared.error.TableError.{TableError}
+use Rattle.reg_tables.specs.declared.error.TableError.TheVariants as table
 use Rattle.reg_tables.specs.declared.error.AdoptError.{AdoptError}
 use Rattle.reg_tables.specs.declared.error.AdoptError.TheVariants.{NoMemory, Store}
-use Rattle.reg_tables.specs.Adoption.{adopt_error, is_store_failure}
+use Rattle.reg_tables.specs.Private.Errors.{adopt_error, fails, is_store}
+use Rattle.reg_tables.specs.Adoption.{gives_up, is_store_failure}
 use Rattle.reg_tables.specs.Quiet.{IsAsBefore, IsStill, IsUndone}
 use Rattle.reg_tables.proofs.QuietLaws.{clean_before, quiet_read, same_then, survives_same}
 
@@ -166,12 +167,30 @@ refused_quiet old mid new failed mode stays one unchanged probe two = record {
     was clean well = stays (clean_before mid new two clean) (unchanged clean well).0.was_open
 
 -- what is said of both answers to a fault is said of its answer
-pub fault_is : (P : AdoptError → Type 0) (e : KeepError) (a : AdoptError) → a ≡ adopt_error e → P Store → P NoMemory → P a
-fault_is P keep.NoMemory a is store memory = subst P (sym is) memory
-fault_is P e a is store memory = subst P (sym is) store
+pub fault_is : (P : AdoptError → Type 0) (e : TableError) (a : AdoptError) → a ≡ adopt_error e → P Store → P NoMemory → P a
+fault_is P table.NoMemory a is store memory = subst P (sym is) memory
+fault_is P table.Store a is store memory = subst P (sym is) store
 
 -- the answer is `Store` where the call failed with `Store`
-pub fault_quiet : (old new : State) (e : KeepError) (a : AdoptError) → a ≡ adopt_error e → IsStill old new (is_store e) → IsStill old new (is_store_failure a)
-fault_quiet old new keep.Full a is quiet = subst (λ (x : AdoptError). IsStill old new (is_store_failure x)) (sym is) (quiet_read old new true quiet)
-fault_quiet old new keep.Store a is quiet = subst (λ (x : AdoptError). IsStill old new (is_store_failure x)) (sym is) quiet
-fault_quiet old new keep.NoMemory a is quiet = subst (λ (x : AdoptError). IsStill old new (is_store_failure x)) (sym is) quiet
+pub fault_quiet : (old new : State) (e : TableError) (a : AdoptError) → a ≡ adopt_error e → IsStill old new (is_store e) → IsStill old new (is_store_failure a)
+fault_quiet old new table.Store a is quiet = subst (λ (x : AdoptError). IsStill old new (is_store_failure x)) (sym is) quiet
+fault_quiet old new table.NoMemory a is quiet = subst (λ (x : AdoptError). IsStill old new (is_store_failure x)) (sym is) quiet
+
+-- ---- a refusal that `?` passes on
+
+-- a call that fails with the error of another fails as that did
+pub passed_quiet : {X : Type 0} (old new : State) (r : Result X TableError) (e : TableError) → IsErrAnd r (λ d. d ≡ e) → IsStill old new (is_store e) → IsStill old new (fails r)
+passed_quiet old new r e is quiet = let p = err_from_is_err_and r is in rw (p.1, p.2) quiet
+
+pub refused_as : {X : Type 0} (P : AdoptError → Type 0) (r : Result X AdoptError) (e : AdoptError) → IsErrAnd r (λ d. d ≡ e) → P e → IfErr r P
+refused_as P r e is its = let p = err_from_is_err_and r is in rw (p.1, p.2) its
+
+pub gives_up_quiet : {X : Type 0} (old new : State) (r : Result X AdoptError) (e : AdoptError) → IsErrAnd r (λ d. d ≡ e) → IsStill old new (is_store_failure e) → IsStill old new (gives_up r)
+gives_up_quiet old new r e is quiet = let p = err_from_is_err_and r is in rw (p.1, p.2) quiet
+
+-- so does one whose error is made of it
+pub raised_quiet : {X : Type 0} (old new : State) (r : Result X AdoptError) (e : TableError) → IsErrAnd r (λ a. a ≡ adopt_error e) → IsStill old new (is_store e) → IsStill old new (gives_up r)
+raised_quiet old new r e is quiet = let p = err_from_is_err_and r is in rw p.1 (fault_quiet old new e p.0 p.2 quiet)
+
+pub raised_is : {X : Type 0} (P : AdoptError → Type 0) (r : Result X AdoptError) (e : TableError) → IsErrAnd r (λ a. a ≡ adopt_error e) → P Store → P NoMemory → IfErr r P
+raised_is P r e is store memory = let p = err_from_is_err_and r is in rw p.1 (fault_is P e p.0 p.2 store memory)

@@ -11,13 +11,13 @@ use Rattle.ags_links.specs.Steps.{IsBefore}
 use Rattle.sqlite.specs.Tree.{IsAscending}
 use Rattle.reg_store.specs.declared.keep.Kept.{Kept}
 use Rattle.reg_store.specs.declared.keep.KeptRow.{KeptRow}
-use Rattle.reg_store.specs.declared.keep.KeepError.{KeepError}
+use Rattle.reg_tables.specs.declared.error.TableError.{TableError}
 use Rattle.reg_store.specs.Keep.{sent_of}
 use Rattle.reg_tables.specs.Rows.{given_deposit, line_table, step_table, placed_rows, step_pair, rows_under}
 use Rattle.reg_tables.proofs.ReadsLaws.{holds_lines, reads_lines}
 use Rattle.reg_tables.proofs.ReadsStepsLaws.{holds_steps, reads_steps, same_places, same_pairs}
 
-pub kept_from : (n : ℕ) (rows found : List Row) (r : Result Kept KeepError) → IsPermutation rows found → IfOk r (λ kept. rows ≡ given_deposit n (sent_of kept) ∷ []) → IfOk r (λ kept. found ≡ given_deposit n (sent_of kept) ∷ [])
+pub kept_from : (n : ℕ) (rows found : List Row) (r : Result Kept TableError) → IsPermutation rows found → IfOk r (λ kept. rows ≡ given_deposit n (sent_of kept) ∷ []) → IfOk r (λ kept. found ≡ given_deposit n (sent_of kept) ∷ [])
 kept_from n rows found (Ok kept) same read = one_permutation (given_deposit n (sent_of kept)) found (subst (λ all. IsPermutation all found) read same)
 kept_from n rows found (Err e) same read = tt
 

@@ -1,16 +1,44 @@
 -- What a call that only reads leaves of a store over a database.
-use Rattle.std.proofs.Common.{◌≡◌, ◌≢◌, ℕ, Bool, false, List, Result, IfErr, refl, sym, ap, subst, ◌∙◌}
+use Rattle.std.proofs.Common.{◌≡◌, ◌≢◌, ℕ, Bool, false, List, Result, Ok, Err, IfOk, IfErr, refl, sym, ap, subst, ◌∙◌}
 use Rattle.ags_dict.specs.Entries.{Entries}
 use Rattle.sqlite.specs.Effect.{Database}
 use Rattle.sqlite.specs.State.{State, HasCleanDisk}
 use Rattle.reg_store.specs.declared.keep.KeepError.{KeepError}
 use Rattle.reg_store.specs.declared.keep.KeepError.TheVariants.{Full}
-use Rattle.reg_store.specs.Keep.{Reads, fails}
+use Rattle.reg_store.specs.Keep.{Adds, Reads, fails, is_store}
 use Rattle.reg_store.specs.Deposit.{Deposit}
+use Rattle.reg_tables.specs.declared.error.TableError.{TableError}
+use Rattle.reg_tables.specs.declared.error.TableError.TheVariants.{Store, NoMemory}
+use Rattle.reg_tables.specs.Private.Errors.{answer_of, fails as failed, is_store as is_failure, keep_error}
 use Rattle.reg_tables.proofs.KeepLaws.{left_list, left_same}
 use Rattle.reg_tables.specs.Quiet.{IsStill}
 use Rattle.reg_tables.proofs.QuietLaws.{clean_before}
 use Rattle.reg_tables.specs.Register.{deposits_in, text_in, LeavesBroken, LeavesList}
+
+-- the store failed where the tables did
+pub error_fails : (e : TableError) → is_store (keep_error e) ≡ is_failure e
+error_fails Store = refl
+error_fails NoMemory = refl
+
+pub answer_fails : {X : Type 0} (r : Result X TableError) → fails (answer_of r) ≡ failed r
+answer_fails (Ok x) = refl
+answer_fails (Err e) = error_fails e
+
+-- and it is not full
+pub never_full : {X : Type 0} (r : Result X TableError) → IfErr (answer_of r) (λ e. e ≢ Full)
+never_full (Ok x) = tt
+never_full (Err Store) = λ is. cc
+never_full (Err NoMemory) = λ is. cc
+
+-- what was found is answered
+pub answered : {X : Type 0} (P : X → Type 0) (r : Result X TableError) {answer : Result X KeepError} → answer ≡ answer_of r → IfOk r P → IfOk answer P
+answered P (Ok x) is found = rw is found
+answered P (Err e) is found = rw is tt
+
+-- what is answered was found
+pub found_of : {X : Type 0} (r : Result X TableError) (x : X) → answer_of r ≡ Ok x → r ≡ Ok x
+found_of (Ok y) x is = ap (λ z. Ok z) (let same : y ≡ x = cc in same)
+found_of (Err e) x is = absurd cc
 
 module _ {K : Type 0} (held : K → State) (dictionary : K → Entries) (limit : ℕ) (has_failed : K → Bool) where
   -- where the connection is still, the store was only read
@@ -28,6 +56,12 @@ module _ {K : Type 0} (held : K → State) (dictionary : K → Entries) (limit :
     whole = λ clean left. left_same (held old) (held new) still.survives clean _ (subst (λ (d : Entries). LeavesBroken (held new).may_leave d) same left);
   }
 
+  -- so it was where the tables were read, and the store answers what they did
+  pub reads_table : {X : Type 0} (old new : K) (r : Result X TableError) (answer : Result X KeepError) → answer ≡ answer_of r → IsStill (held old) (held new) (failed r) → dictionary new ≡ dictionary old → has_failed new ≡ failed r
+      → Reads (λ k. deposits_in (held k).committed.trees) dictionary (λ k. text_in (held k).committed.trees) (λ _. limit) has_failed (λ k. LeavesList (held k).may_leave (dictionary k)) (λ k. LeavesBroken (held k).may_leave (dictionary k)) (λ k. HasCleanDisk (held k)) old new answer
+  reads_table old new r answer is still same failing =
+      rw is (reads_still old new (answer_of r) (subst (IsStill (held old) (held new)) (sym (answer_fails r)) still) same (failing ∙ sym (answer_fails r)) (never_full r))
+
 module _ {K : Type 0} {deposits : K → List Deposit} {dictionary : K → Entries} {text : K → List ℕ} {limit : K → ℕ} {has_failed : K → Bool} {may_leave : K → List ℕ → List Deposit → Type 0} {may_break : K → Type 0} {is_sound : K → Type 0} where
   -- another answer, which is refused by `Store` where this one is
   pub reads_as : {X Y : Type 0} (old new : K) (r : Result X KeepError) (other : Result Y KeepError) → fails other ≡ fails r → IfErr other (λ e. e ≢ Full) → Reads deposits dictionary text limit has_failed may_leave may_break is_sound old new r → Reads deposits dictionary text limit has_failed may_leave may_break is_sound old new other
@@ -42,6 +76,10 @@ module _ {K : Type 0} {deposits : K → List Deposit} {dictionary : K → Entrie
     crash = one.crash;
     whole = one.whole;
   }
+
+  -- the answer by another name
+  pub adds_as : {X : Type 0} (next : List Deposit) (old new : K) (r other : Result X KeepError) → other ≡ r → Adds deposits dictionary text limit has_failed may_leave may_break is_sound next old new r → Adds deposits dictionary text limit has_failed may_leave may_break is_sound next old new other
+  adds_as next old new r other is one = rw is one
 
   -- one call after the other
   pub reads_then : {X Y : Type 0} (a b c : K) (r : Result X KeepError) (s : Result Y KeepError) → fails r ≡ false → Reads deposits dictionary text limit has_failed may_leave may_break is_sound a b r → Reads deposits dictionary text limit has_failed may_leave may_break is_sound b c s → Reads deposits dictionary text limit has_failed may_leave may_break is_sound a c s

@@ -22,7 +22,7 @@ use Rattle.std.proofs.lemmas.Slice.Eq.{bytes_eq-Decides}
 use Rattle.sqlite.specs.Effect.{Database}
 use Rattle.sqlite.specs.State.{State}
 use Rattle.ags_dict.specs.Entries.{Entries}
-use Rattle.reg_store.specs.declared.keep.KeepError.{KeepError}
+use Rattle.reg_tables.specs.declared.error.TableError.{TableError}
 use Rattle.reg_tables.specs.declared.memory.digests.Digests.{Digests}
 use Rattle.reg_store.specs.Apart.{AreApart}
 use Rattle.reg_store.specs.ApartLaws.{none_at, parts_of}
@@ -206,7 +206,7 @@ found_none db firm project bytes list digests there are none = sym (not_found 1 
         none (k + 1) (subst (λ (x : List ℕ). is_among (k + 1) (numbers_under digests x) ≡ true) (same_digest firm project bytes d yes) (are k d at)) d row))
 
 -- what is found under the digest is the first repeat
-pub repeat_found : {s : State} {dictionary : Entries} {count : ℕ} (firm project bytes : List ℕ) (digests : Digests) (numbers : List ℕ) (r : Result (Option ℕ) KeepError) → ∥ KeepsRegister s dictionary count ∥₁
+pub repeat_found : {s : State} {dictionary : Entries} {count : ℕ} (firm project bytes : List ℕ) (digests : Digests) (numbers : List ℕ) (r : Result (Option ℕ) TableError) → ∥ KeepsRegister s dictionary count ∥₁
     → numbers ≡ numbers_under digests (digest_of firm project bytes) → AreBelow digests (count + 1) → AreDigested digests (sents (deposits_in s.committed.trees))
     → IfOk r (λ found. IfSome found (HasEqual s.now firm project bytes)) → IfOk r (λ found. IfSome found (λ n. is_among n numbers ≡ true)) → (r ≡ Ok None → HasNoEqual s.now numbers firm project bytes)
     → IfOk r (λ n. n ≡ number_of firm project bytes (sents (deposits_in s.committed.trees)))

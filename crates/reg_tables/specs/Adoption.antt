@@ -12,8 +12,6 @@ use Rattle.ags_dict.specs.Entries.{Entries}
 use Rattle.ags_dict.specs.Reading.{IsDictionary}
 use Rattle.reg_tables.specs.declared.error.AdoptError.{AdoptError}
 use Rattle.reg_tables.specs.declared.error.AdoptError.TheVariants.{NotRegister, Version, Store, NoMemory}
-use Rattle.reg_store.specs.declared.keep.KeepError.{KeepError}
-use Rattle.reg_store.specs.declared.keep.KeepError.TheVariants as keep
 use Rattle.reg_store.specs.Sent.{Sent}
 use Rattle.reg_store.specs.Deposit.{Deposit}
 use Rattle.reg_tables.specs.declared.schema.format.Format.{Format}
@@ -23,12 +21,6 @@ use Rattle.reg_tables.specs.Formats.{HasFormat, IsFormatRow}
 use Rattle.reg_tables.specs.Register.{HoldsSent, IsRegister, IsRegisterOf, deposits_in, mark_rows, mark_table}
 use Rattle.reg_tables.specs.Register.{meta_columns, text_in}
 use Rattle.reg_tables.specs.Whole.{HasMeta}
-
--- What is answered where a query is refused.
-abbrev pub adopt_error : KeepError → AdoptError
-adopt_error keep.Full = Store
-adopt_error keep.Store = Store
-adopt_error keep.NoMemory = NoMemory
 
 -- The refusal is that of the store.
 abbrev pub is_store_failure : AdoptError → Bool

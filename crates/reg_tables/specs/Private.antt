@@ -1,4 +1,5 @@
 -- What the proofs and the contracts of private functions use. No promise is made of these words.
+pub mod Errors
 pub mod Meaning
 pub mod Inserts
 pub mod Inside

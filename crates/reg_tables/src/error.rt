@@ -1,8 +1,21 @@
-//! Why a register is not made, opened or migrated.
+//! Why the tables are not read or changed, and why a register is not made, opened or migrated.
+
+ghost use Rattle.std.specs.Prelude.{◌≡◌, ◌↔◌, IsTrue};
 
 use ags_dict::DictError;
 use reg_store::KeepError;
+use sqlite::{Error as SqlError, ErrorCode};
+use std::alloc::{AllocError, AllocFailed};
 use thiserror::Error;
+
+/// Why the tables are not read or changed. That a register is full is known without them.
+#[derive(Clone, Copy)]
+pub(crate) enum TableError {
+    /// The database failed, or it holds what no register holds.
+    Store,
+    /// Out of memory.
+    NoMemory,
+}
 
 /// Why a register is not made.
 #[derive(Debug, Drop, Error)]
@@ -41,16 +54,77 @@ pub enum AdoptError {
 /// Why a register is not migrated: the refusals of `adopt`, where `Version` has another number than 1.
 pub type MigrateError = AdoptError;
 
-impl From<KeepError> for AdoptError {
+impl From<AllocError> for TableError {
     ghost use Rattle.std.specs.Prelude.{◌≡◌};
-    ghost use Rattle.reg_tables.specs.Adoption.{adopt_error};
+    ghost use Rattle.reg_tables.specs.declared.error.TableError.TheVariants.{NoMemory};
+
+    ghost from_gives = { λ _ e. e ≡ NoMemory };
+
+    fn from(_e: AllocError) -> TableError {
+        TableError::NoMemory
+    }
+}
+
+impl<T: Drop> From<AllocFailed<T>> for TableError {
+    ghost use Rattle.std.specs.Prelude.{◌≡◌};
+    ghost use Rattle.reg_tables.specs.declared.error.TableError.TheVariants.{NoMemory};
+
+    ghost from_gives = { λ _ e. e ≡ NoMemory };
+
+    fn from(_e: AllocFailed<T>) -> TableError {
+        TableError::NoMemory
+    }
+}
+
+// A connection may be shut where it is out of memory: what a call of it is answered, `refusal` finds out.
+impl From<SqlError> for TableError {
+    ghost use Rattle.std.specs.Prelude.{◌≡◌, ◌≢◌};
+    ghost use Rattle.sqlite.specs.declared.error.Error.TheVariants.{SqliteFailure};
+    ghost use Rattle.sqlite.specs.declared.error.ErrorCode.TheVariants.{OutOfMemory};
+    ghost use Rattle.reg_tables.specs.declared.error.TableError.TheVariants.{Store};
+
+    ghost from_gives = { λ error e. e ≡ Store → error ≢ SqliteFailure OutOfMemory };
+
+    fn from(error: SqlError) -> TableError {
+        if is_memory(&error) {
+            TableError::NoMemory
+        } else {
+            TableError::Store
+        }
+    }
+}
+
+/// Whether the error of a database is that it is out of memory.
+pub(crate) fn is_memory(error: &SqlError) -> bool
+    ensures { IsTrue result ↔ (error.now ≡ SqlError.SqliteFailure ErrorCode.OutOfMemory) }
+{
+    matches!(error, SqlError::SqliteFailure(ErrorCode::OutOfMemory))
+}
+
+impl From<TableError> for KeepError {
+    ghost use Rattle.std.specs.Prelude.{◌≡◌};
+    ghost use Rattle.reg_tables.specs.Private.Errors.{keep_error};
+
+    ghost from_gives = { λ error e. e ≡ keep_error error };
+
+    fn from(error: TableError) -> KeepError {
+        match error {
+            TableError::Store => KeepError::Store,
+            TableError::NoMemory => KeepError::NoMemory,
+        }
+    }
+}
+
+impl From<TableError> for AdoptError {
+    ghost use Rattle.std.specs.Prelude.{◌≡◌};
+    ghost use Rattle.reg_tables.specs.Private.Errors.{adopt_error};
 
     ghost from_gives = { λ error e. e ≡ adopt_error error };
 
-    fn from(error: KeepError) -> AdoptError {
+    fn from(error: TableError) -> AdoptError {
         match error {
-            KeepError::NoMemory => AdoptError::NoMemory,
-            KeepError::Full | KeepError::Store => AdoptError::Store,
+            TableError::Store => AdoptError::Store,
+            TableError::NoMemory => AdoptError::NoMemory,
         }
     }
 }

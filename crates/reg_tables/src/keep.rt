@@ -1,13 +1,14 @@
 //! A store of deposits over a database.
 
 ghost use Rattle.std.specs.Prelude.{◌≡◌, length, false};
-ghost use Rattle.reg_store.specs.Keep.{fails, is_store as store_error};
+ghost use Rattle.reg_tables.specs.Private.Errors.{answer_of, fails};
 ghost use Rattle.reg_tables.specs.Private.KeepLaws.{few_at, fit_at, remains_at, settled_at, stays_at, unbroken_at};
 ghost use Rattle.sqlite.specs.State.{HasCleanDisk};
 ghost use Rattle.sqlite.specs.Held.{state};
 ghost use Rattle.reg_tables.specs.Private.Memory.{Agrees};
 ghost use Rattle.reg_tables.specs.Register.{deposits_in, KeepsIfClean, KeepsRegister, LeavesBroken, LeavesList, text_in};
 
+use crate::error::TableError;
 use crate::memory::Memory;
 use crate::memory::digests::digest_of;
 use crate::memory::file::KnownFile;
@@ -74,8 +75,7 @@ impl<S: Alter> Keep for SqlKeep<S> {
             project,
             bytes,
         );
-        self.has_failed = has_store_error(&found);
-        found
+        answer(found, &mut self.has_failed)
     }
 
     fn add(
@@ -111,10 +111,7 @@ impl<S: Alter> Keep for SqlKeep<S> {
                 self.memory.push(coming);
                 Ok(count + 1)
             }
-            Err(error) => {
-                self.has_failed = is_store_error(&error);
-                Err(error)
-            }
+            Err(error) => answer(Err(error), &mut self.has_failed),
         }
     }
 
@@ -124,48 +121,41 @@ impl<S: Alter> Keep for SqlKeep<S> {
                 self.memory.mark(n);
                 Ok(())
             }
-            Err(refused) => {
-                self.has_failed = is_store_error(&refused);
-                Err(refused)
-            }
+            Err(error) => answer(Err(error), &mut self.has_failed),
         }
     }
 
     fn deposit(&mut self, n: u32) -> Result<Kept, KeepError> {
         let found = read_deposit(&mut self.connection, self.alloc, n);
-        self.has_failed = has_store_error(&found);
-        let mut kept = found?;
+        let mut kept = answer(found, &mut self.has_failed)?;
         kept.withdrawn = self.memory.is_withdrawn(n);
         Ok(kept)
     }
 
     fn head(&mut self, n: u32) -> Result<KeptHead, KeepError> {
         let found = self.memory.held_head(n);
-        self.has_failed = has_store_error(&found);
-        found
+        answer(found, &mut self.has_failed)
     }
 
     fn rows(&mut self, n: u32) -> Result<Vec<KeptRow>, KeepError> {
         let found = read_lines(&mut self.connection, self.alloc, n);
-        self.has_failed = has_store_error(&found);
-        found
+        answer(found, &mut self.has_failed)
     }
 
     fn steps(&mut self, n: u32) -> Result<Graph, KeepError> {
         let rows = self.memory.row_count(n);
         let found = read_graph(&mut self.connection, self.alloc, n, rows);
-        self.has_failed = has_store_error(&found);
-        found
+        answer(found, &mut self.has_failed)
     }
 
     fn project_rows(&mut self, n: u32) -> Result<Vec<HeadedRow>, KeepError> {
         let found = self.memory.held_project(self.alloc, n);
-        self.has_failed = has_store_error(&found);
-        found
+        answer(found, &mut self.has_failed)
     }
 
     fn numbers(&mut self, project: &Name) -> Result<Vec<u32>, KeepError> {
-        self.memory.held_numbers(self.alloc, project)
+        let numbers = self.memory.held_numbers(self.alloc, project)?;
+        Ok(numbers)
     }
 
     fn count(&self) -> u32 {
@@ -233,16 +223,21 @@ impl<S: Alter + Drop> Drop for SqlKeep<S> {
     }
 }
 
-fn is_store_error(error: &KeepError) -> bool
-    ensures { result ≡ store_error error.now }
+/// What a call answers, and whether the store failed in it.
+fn answer<T>(outcome: Result<T, TableError>, has_failed: &mut bool) -> Result<T, KeepError>
+    ensures answer { result ≡ answer_of outcome }
+    ensures failing { has_failed.new ≡ fails outcome }
 {
-    matches!(error, KeepError::Store)
-}
-
-fn has_store_error<T>(outcome: &Result<T, KeepError>) -> bool
-    ensures { result ≡ fails outcome.now }
-{
-    matches!(outcome, Err(KeepError::Store))
+    match outcome {
+        Ok(found) => {
+            *has_failed = false;
+            Ok(found)
+        }
+        Err(error) => {
+            *has_failed = matches!(error, TableError::Store);
+            Err(KeepError::from(error))
+        }
+    }
 }
 
 /// Drops the dictionary, and what is known of the deposits.

@@ -1,9 +1,9 @@
 //! What is known of the deposits without the tables: their heads, their rows of PROJ, and their digests.
 
-ghost use Rattle.std.specs.Prelude.{◌≡◌, ◌≢◌, ◌↔◌, ◌+◌, ◌++◌, ◌∷◌, ◌-◌, ◌<◌, ◌≤◌, [], ℕ, List, length, false, Some, Err};
-ghost use Rattle.std.specs.Prelude.{slice_get, IsTrue, IfOk, IfErr, IfSome};
+ghost use Rattle.std.specs.Prelude.{◌≡◌, ◌≢◌, ◌↔◌, ◌+◌, ◌++◌, ◌∷◌, ◌-◌, ◌<◌, ◌≤◌, [], ℕ, List, length, Some, Err};
+ghost use Rattle.std.specs.Prelude.{slice_get, IsTrue, IfOk, IfSome};
 ghost use Rattle.ags_dict.specs.Entries.{Entries};
-ghost use Rattle.reg_store.specs.Keep.{OfDeposit, fails};
+ghost use Rattle.reg_store.specs.Keep.{OfDeposit};
 ghost use Rattle.reg_store.specs.Reading.{HasProjectRows, IsHeadAt};
 ghost use Rattle.reg_store.specs.Deposit.{Deposit, with_withdrawn, sents, new_deposit};
 ghost use Rattle.reg_store.specs.Sent.{Sent, numbers_from};
@@ -16,11 +16,12 @@ pub(crate) mod digests;
 pub(crate) mod file;
 pub(crate) mod room;
 
+use crate::error::TableError;
 use crate::memory::digests::{Digests, digest_of};
 use crate::memory::file::KnownFile;
 use crate::memory::room::{Room, Totals};
 use reg_policy::{Day, Name};
-use reg_store::{HeadedRow, KeepError, KeptHead};
+use reg_store::{HeadedRow, KeptHead};
 use std::alloc::{AllocError, Global};
 
 /// What is known of the deposits.
@@ -102,14 +103,13 @@ impl Memory {
     }
 
     /// The head of deposit n. A number that no deposit has is `Store`: the disk that it was read from was not sound.
-    pub(crate) fn held_head(&self, n: u32) -> Result<KeptHead, KeepError>
+    pub(crate) fn held_head(&self, n: u32) -> Result<KeptHead, TableError>
         ensures read { IfOk result (λ head. (dictionary : Entries) (list : List Deposit) → Agrees self.now dictionary list
             → IsHeadAt list n head) }
-        ensures refused { IfErr result (λ e. e ≢ KeepError.Full) }
-        ensures there { 0 < n → n ≤ length self.now.known.items → result ≢ Err KeepError.Store }
+        ensures there { 0 < n → n ≤ length self.now.known.items → result ≢ Err TableError.Store }
     {
         if !self.is_known(n) {
-            return Err(KeepError::Store);
+            return Err(TableError::Store);
         }
         let head = self.known[n as usize - 1].head.clone()?;
         Ok(head)
@@ -136,11 +136,9 @@ impl Memory {
     }
 
     /// The numbers of a project's deposits, rising.
-    pub(crate) fn held_numbers(&self, alloc: Global, project: &Name) -> Result<Vec<u32>, KeepError>
-        ensures numbers { IfOk result (λ ns. (dictionary : Entries) (list : List Deposit) → Agrees self.now dictionary list
+    pub(crate) fn held_numbers(&self, alloc: Global, project: &Name) -> Result<Vec<u32>, AllocError>
+        ensures { IfOk result (λ ns. (dictionary : Entries) (list : List Deposit) → Agrees self.now dictionary list
             → ns.items ≡ numbers_from 1 project.now (sents list)) }
-        ensures refused { IfErr result (λ e. e ≢ KeepError.Full) }
-        ensures well { fails result ≡ false }
     {
         let mut numbers = Vec::new(alloc);
         let mut number: u32 = 0;
@@ -162,14 +160,13 @@ impl Memory {
 
     /// The row of PROJ of deposit n, and the rows that it reaches. A number that no deposit has is `Store`: the disk
     /// that it was read from was not sound.
-    pub(crate) fn held_project(&self, alloc: Global, n: u32) -> Result<Vec<HeadedRow>, KeepError>
+    pub(crate) fn held_project(&self, alloc: Global, n: u32) -> Result<Vec<HeadedRow>, TableError>
         ensures read { IfOk result (λ rows. (dictionary : Entries) (list : List Deposit)
             → Agrees self.now dictionary list → OfDeposit dictionary (sents list) n (HasProjectRows rows)) }
-        ensures refused { IfErr result (λ e. e ≢ KeepError.Full) }
-        ensures there { 0 < n → n ≤ length self.now.known.items → result ≢ Err KeepError.Store }
+        ensures there { 0 < n → n ≤ length self.now.known.items → result ≢ Err TableError.Store }
     {
         if !self.is_known(n) {
-            return Err(KeepError::Store);
+            return Err(TableError::Store);
         }
         let rows = copied_rows(alloc, &self.known[n as usize - 1].file.project)?;
         Ok(rows)

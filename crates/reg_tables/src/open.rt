@@ -25,13 +25,12 @@ pub(crate) mod second_format;
 pub(crate) mod tables;
 pub(crate) mod values;
 
-use crate::error::AdoptError;
+use crate::error::{AdoptError, TableError};
 use crate::keep::SqlKeep;
 use crate::open::recall::recall;
 use crate::open::tables::examine_tables;
-use crate::read::queries::keep_error;
 use crate::schema::format::Format;
-use reg_store::{KeepError, Progress};
+use reg_store::Progress;
 use sqlite::{Alter, Connection, FileFrom, FileStore, Start};
 use std::alloc::Global;
 
@@ -114,7 +113,7 @@ impl<F: Start> SqlKeep<FileStore<FileFrom<F>>> {
                 Ok(keep) => Ok(keep),
                 Err((error, connection)) => Err((error, Some(connection))),
             },
-            Err(KeepError::NoMemory) => Err((AdoptError::NoMemory, None)),
+            Err(TableError::NoMemory) => Err((AdoptError::NoMemory, None)),
             Err(_) => Err((AdoptError::Store, None)),
         }
     }
@@ -128,12 +127,12 @@ pub(crate) fn connect<F: Start>(
     rt: &HostRuntime,
     path: &str,
     start: F,
-) -> Result<Connection<FileStore<FileFrom<F>>>, KeepError>
+) -> Result<Connection<FileStore<FileFrom<F>>>, TableError>
     ensures opened { IfOk result (λ c. HasCleanDisk (file_state c) → IsOpened c) }
     ensures found { IfOk result (λ c. HasCleanDisk (file_state c) → FindsIn (image_at F.Start) (file_state c)) }
 {
     match Connection::open_from(rt, path, false, start) {
         Ok(connection) => Ok(connection),
-        Err((error, _left)) => Err(keep_error(&error)),
+        Err((error, _left)) => Err(TableError::from(error)),
     }
 }

@@ -1,11 +1,11 @@
 //! Adds a checked file to the tables as a deposit.
 
-ghost use Rattle.std.specs.Prelude.{◌≡◌, ◌≢◌, ◌<◌, ◌^◌, length, pos, false, IsTrue, IfErr};
+ghost use Rattle.std.specs.Prelude.{◌≡◌, ◌<◌, ◌^◌, length, pos, false, IsTrue};
 ghost use Rattle.sqlite.specs.State.{HasCleanDisk};
 ghost use Rattle.sqlite.specs.Held.{state};
 ghost use Rattle.reg_policy.specs.Days.{is_day_number};
 ghost use Rattle.reg_store.specs.Fit.{IsNamed, kept_rows};
-ghost use Rattle.reg_store.specs.Keep.{fails};
+ghost use Rattle.reg_tables.specs.Private.Errors.{fails};
 ghost use Rattle.reg_tables.specs.Private.Commits.{CommitsAll, UndoesUnlessFailed};
 ghost use Rattle.reg_tables.specs.Private.Filed.{AddsChecked, SurvivesAdding};
 ghost use Rattle.reg_tables.specs.Tables.{register_schema};
@@ -19,11 +19,12 @@ pub(crate) mod mark;
 pub(crate) mod statement;
 pub(crate) mod steps;
 
+use crate::error::TableError;
 use crate::write::change::change_tables;
 use crate::write::filed::Filed;
 use ags_check::Checked;
 use reg_policy::{Day, Name};
-use reg_store::{KeepError, KeptRow};
+use reg_store::KeptRow;
 use sqlite::{Alter, Connection};
 
 /// Adds a checked file under a number, with its steps and these, its rows. `NoMemory` is answered only where nothing changed.
@@ -35,7 +36,7 @@ pub(crate) fn add_checked<S: Alter>(
     embargo: Day,
     checked: &Checked<'_>,
     rows: &[KeptRow],
-) -> Result<(), KeepError>
+) -> Result<(), TableError>
     requires rows { rows.now ≡ kept_rows checked.now.groups }
     requires few { length rows.now < 2 ^ 32 }
     requires idle { IsIdle (state S.Store conn.old) }
@@ -47,8 +48,7 @@ pub(crate) fn add_checked<S: Alter>(
         (state S.Store conn.old) (state S.Store conn.new) }
     ensures settled { CommitsAll result (state S.Store conn.new) }
 
-    // Which refusal never comes, and what is undone at one that is not `Store`.
-    ensures refused { IfErr result (λ e. e ≢ KeepError.Full) }
+    // What is undone at a refusal that is not `Store`.
     ensures undone { UndoesUnlessFailed result (state S.Store conn.old) (state S.Store conn.new) }
 
     // Deposit, transaction and connection in either case, and what a crash may leave.

@@ -2,8 +2,8 @@
 use Rattle.std.specs.Prelude.{◌≡◌, false, IsTrue, Result, OnOk, OnErr}
 use Rattle.sqlite.specs.Effect.{Database, IsDatabase}
 use Rattle.sqlite.specs.State.{State, HasCleanDisk}
-use Rattle.reg_store.specs.declared.keep.KeepError.{KeepError}
-use Rattle.reg_store.specs.Keep.{fails}
+use Rattle.reg_tables.specs.declared.error.TableError.{TableError}
+use Rattle.reg_tables.specs.Private.Errors.{fails}
 use Rattle.reg_tables.specs.Quiet.{IsUndone}
 
 -- The change is made, and what it makes is a database.
@@ -28,5 +28,5 @@ abbrev pub UndoesIfOpen : {A E : Type 0} → Result A E → State → State → 
 UndoesIfOpen result old new = HasCleanDisk new → IsTrue new.is_open → OnErr result (IsUndone old new)
 
 -- On a clean disk, all is undone by an error that is not `Store`.
-abbrev pub UndoesUnlessFailed : {A : Type 0} → Result A KeepError → State → State → Type 0
+abbrev pub UndoesUnlessFailed : {A : Type 0} → Result A TableError → State → State → Type 0
 UndoesUnlessFailed result old new = HasCleanDisk new → fails result ≡ false → OnErr result (IsUndone old new)

@@ -4,9 +4,10 @@ ghost use Rattle.std.specs.Prelude.{◌≡◌, ◌<◌, ◌≤◌, ◌↔◌, �
 ghost use Rattle.reg_tables.specs.Rows.{placed_row, placed_rows, step_pair};
 ghost use Rattle.reg_tables.specs.Whole.{Compares};
 
+use crate::error::TableError;
 use crate::open::values::is_row;
 use crate::read::gather::Gather;
-use reg_store::{KeepError, KeptRow};
+use reg_store::KeptRow;
 use sqlite::Row;
 use sqlite::types::{ToSql, ValueRef};
 
@@ -23,7 +24,7 @@ impl Gather for SameLines<'_> {
     ghost holds = { λ first it rows. (it.lines ≡ first.lines)
         × Compares (placed_rows 0 it.lines.now) it.at it.is rows };
 
-    fn take(&mut self, row: &Row) -> Result<(), KeepError> {
+    fn take(&mut self, row: &Row) -> Result<(), TableError> {
         if self.is {
             if is_line_at(self.lines, self.at, row) {
                 self.at += 1;
@@ -47,7 +48,7 @@ impl Gather for SameSteps<'_> {
     ghost holds = { λ first it rows. (it.steps ≡ first.steps)
         × Compares (map step_pair it.steps.now) it.at it.is rows };
 
-    fn take(&mut self, row: &Row) -> Result<(), KeepError> {
+    fn take(&mut self, row: &Row) -> Result<(), TableError> {
         if self.is {
             if is_step_at(self.steps, self.at, row) {
                 self.at += 1;

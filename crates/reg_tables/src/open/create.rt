@@ -16,7 +16,7 @@ ghost use Rattle.reg_tables.specs.Quiet.{StaysIfClean, StaysIfOpen};
 ghost use Rattle.reg_tables.specs.Register.{deposits_in};
 ghost use Rattle.reg_tables.specs.Opened.{FindsEmpty, FindsNotEmpty, ShowsFiles};
 
-use crate::error::CreateError;
+use crate::error::{CreateError, TableError};
 use crate::keep::SqlKeep;
 use crate::memory::Memory;
 use crate::open::connect;
@@ -25,7 +25,6 @@ use crate::schema::is_vacant;
 use crate::write::change::change_tables;
 use ags_dict::{DictError, Dictionary};
 use ags_rows::READABLE;
-use reg_store::KeepError;
 use sqlite::{Alter, Connection, FileFrom, FileStore, MemStore, Start};
 use std::alloc::Global;
 
@@ -135,10 +134,7 @@ impl SqlKeep<MemStore> {
         ensures refused { IfErr result (RefusesBytes bytes.now) }
         ensures named { IfErr result (λ e. e ≢ CreateError.NotEmpty) }
     {
-        let dictionary = match dictionary_from(alloc, bytes) {
-            Ok(dictionary) => dictionary,
-            Err(error) => return Err(error),
-        };
+        let dictionary = dictionary_from(alloc, bytes)?;
         let Ok(connection) = Connection::open_in_memory(alloc) else {
             return Err(CreateError::NoMemory);
         };
@@ -197,8 +193,8 @@ impl<F: Start> SqlKeep<FileStore<FileFrom<F>>> {
                 Ok(keep) => Ok(keep),
                 Err((error, connection)) => Err((error, Some(connection))),
             },
-            Err(KeepError::NoMemory) => Err((CreateError::NoMemory, None)),
-            Err(_) => Err((CreateError::Store, None)),
+            Err(TableError::Store) => Err((CreateError::Store, None)),
+            Err(TableError::NoMemory) => Err((CreateError::NoMemory, None)),
         }
     }
 }
@@ -253,7 +249,7 @@ fn fill<S: Alter>(conn: &mut Connection<S>, alloc: Global, bytes: &[u8]) -> Resu
     }
     match change_tables(conn, &NewTables { dictionary: bytes }) {
         Ok(()) => Ok(()),
-        Err(KeepError::NoMemory) => Err(CreateError::NoMemory),
-        Err(_) => Err(CreateError::Store),
+        Err(TableError::Store) => Err(CreateError::Store),
+        Err(TableError::NoMemory) => Err(CreateError::NoMemory),
     }
 }

@@ -1,12 +1,13 @@
 //! Whether the deposits in the tables are whole, and what is known of them.
 
-ghost use Rattle.std.specs.Prelude.{◌≡◌, ◌≢◌, ◌≤◌, ◌+◌, ◌∷◌, [], ℕ, List, length, true, Ok, Err, IfOk, IfErr, IfSome};
+ghost use Rattle.std.specs.Prelude.{◌≡◌, ◌≤◌, ◌+◌, ◌∷◌, [], ℕ, List, length, true, Ok, Err, IfOk, IfSome};
 ghost use Rattle.sqlite.specs.State.{HasCleanDisk};
 ghost use Rattle.sqlite.specs.Held.{state};
 ghost use Rattle.sqlite.specs.Tree.{IsAscending};
 ghost use Rattle.ags_links.specs.Steps.{IsBefore};
 ghost use Rattle.ags_check.specs.Findings.{IsClean};
-ghost use Rattle.reg_store.specs.Keep.{fails, sent_of};
+ghost use Rattle.reg_store.specs.Keep.{sent_of};
+ghost use Rattle.reg_tables.specs.Private.Errors.{fails};
 ghost use Rattle.reg_tables.specs.Quiet.{IsIdle, IsStill, FindsThat};
 ghost use Rattle.reg_tables.specs.Private.Found.{FindsOneIf, FindsOut, OnYes};
 ghost use Rattle.reg_tables.specs.Rows.{given_deposit};
@@ -17,6 +18,7 @@ ghost use Rattle.reg_store.specs.Sent.{Sent};
 ghost use Rattle.reg_tables.specs.Whole.{AreWhole, HoldsBody, IsWhole};
 ghost use Rattle.reg_tables.specs.Private.Methods.{HoldsLines, HoldsSteps};
 
+use crate::error::TableError;
 use crate::memory::Known;
 use crate::memory::digests::{Digests, digest_of};
 use crate::memory::file::KnownFile;
@@ -30,7 +32,7 @@ use crate::write::lines::few_rows;
 use ags_check::{CheckError, Checked, check};
 use ags_dict::Dictionary;
 use ags_rows::LIMIT;
-use reg_store::{KeepError, Kept, KeptRow, Progress};
+use reg_store::{Kept, KeptRow, Progress};
 use sqlite::{Alter, Connection, Row, params};
 use std::alloc::Global;
 
@@ -43,7 +45,7 @@ pub(crate) fn examine_deposits<S: Alter, P: Progress>(
     known: &mut Vec<Known>,
     digests: &mut Digests,
     progress: &mut P,
-) -> Result<bool, KeepError>
+) -> Result<bool, TableError>
     requires idle { IsIdle (state S.Store conn.old) }
     requires none { known.old.items ≡ [] }
     requires no_digests { (digest : List ℕ) → numbers_under digests.old digest ≡ [] }
@@ -60,19 +62,15 @@ pub(crate) fn examine_deposits<S: Alter, P: Progress>(
     ensures digests { OnYes result (λ db. HoldsDigests db (count + 1) digests.new)
         (state S.Store conn.old) (state S.Store conn.new) }
 
-    // Which refusal never comes.
-    ensures refused { IfErr result (λ e. e ≢ KeepError.Full) }
-
     // What is left in either case.
     ensures quiet { IsStill (state S.Store conn.old) (state S.Store conn.new) (fails result) }
 {
     progress.checked(0, count);
     for at in 0..count {
-        match examine_deposit(conn, alloc, dictionary, at + 1, known, digests) {
-            Ok(true) => progress.checked(at + 1, count),
-            Ok(false) => return Ok(false),
-            Err(error) => return Err(error),
+        if !examine_deposit(conn, alloc, dictionary, at + 1, known, digests)? {
+            return Ok(false);
         }
+        progress.checked(at + 1, count);
     }
     Ok(true)
 }
@@ -86,7 +84,7 @@ fn examine_deposit<S: Alter>(
     number: u32,
     known: &mut Vec<Known>,
     digests: &mut Digests,
-) -> Result<bool, KeepError>
+) -> Result<bool, TableError>
     requires idle { IsIdle (state S.Store conn.old) }
     requires below { AreBelow digests.old number }
     requires digested { HasCleanDisk (state S.Store conn.old)
@@ -95,22 +93,18 @@ fn examine_deposit<S: Alter>(
         (state S.Store conn.old) (state S.Store conn.new) }
     ensures put { AddsKnown result dictionary.now number known.old known.new digests.old digests.new
         (state S.Store conn.old) (state S.Store conn.new) }
-    ensures refused { IfErr result (λ e. e ≢ KeepError.Full) }
     ensures quiet { IsStill (state S.Store conn.old) (state S.Store conn.new) (fails result) }
 {
-    match whole_head(conn, alloc, dictionary, number, digests) {
-        Ok(Some(one)) => {
-            let DigestedHead {
-                known: head,
-                digest,
-            } = one;
-            known.push(head)?;
-            digests.add(alloc, digest, number)?;
-            Ok(true)
-        }
-        Ok(None) => Ok(false),
-        Err(error) => Err(error),
-    }
+    let Some(one) = whole_head(conn, alloc, dictionary, number, digests)? else {
+        return Ok(false);
+    };
+    let DigestedHead {
+        known: head,
+        digest,
+    } = one;
+    known.push(head)?;
+    digests.add(alloc, digest, number)?;
+    Ok(true)
 }
 
 /// What is known of a number's deposit, with its digest, if that deposit is whole. The digests are those of the numbers
@@ -121,7 +115,7 @@ fn whole_head<S: Alter>(
     dictionary: &Dictionary,
     number: u32,
     digests: &Digests,
-) -> Result<Option<DigestedHead>, KeepError>
+) -> Result<Option<DigestedHead>, TableError>
     requires idle { IsIdle (state S.Store conn.old) }
     requires below { AreBelow digests.now number }
     requires digested { HasCleanDisk (state S.Store conn.old)
@@ -130,26 +124,21 @@ fn whole_head<S: Alter>(
         (state S.Store conn.old) (state S.Store conn.new) }
     ensures head { FindsThat result (λ db found. IfSome found (IsDigestedAt db dictionary.now number))
         (state S.Store conn.old) (state S.Store conn.new) }
-    ensures refused { IfErr result (λ e. e ≢ KeepError.Full) }
     ensures quiet { IsStill (state S.Store conn.old) (state S.Store conn.new) (fails result) }
 {
-    let rows = match read_numbered(conn, number) {
-        Ok(rows) => rows,
-        Err(error) => return Err(error),
-    };
+    let rows = read_numbered(conn, number)?;
     match take_deposit(alloc, number, rows) {
         Ok(kept) => kept_head(conn, alloc, dictionary, number, kept, digests),
-        Err(KeepError::Store) => Ok(None),
-        Err(error) => Err(error),
+        Err(TableError::Store) => Ok(None),
+        Err(TableError::NoMemory) => Err(TableError::NoMemory),
     }
 }
 
 /// The deposit of a number, which is the one row of the answer. The row is dropped, so that its body is held once.
-fn take_deposit(alloc: Global, number: u32, rows: Vec<Row>) -> Result<Kept, KeepError>
+fn take_deposit(alloc: Global, number: u32, rows: Vec<Row>) -> Result<Kept, TableError>
     ensures read { IfOk result (λ kept. rows.items ≡ given_deposit number (sent_of kept) ∷ []) }
     ensures is_named { IfOk result (λ kept. IsNamed (sent_of kept)) }
-    ensures refused { IfErr result (λ e. e ≢ KeepError.Full) }
-    ensures other { result ≡ Err KeepError.Store → (d : Sent) → IsNamed d
+    ensures other { result ≡ Err TableError.Store → (d : Sent) → IsNamed d
         → rows.items ≡ given_deposit number d ∷ [] → ⊥ }
 {
     deposit_in(alloc, number, &rows)
@@ -163,24 +152,23 @@ fn kept_head<S: Alter>(
     number: u32,
     kept: Kept,
     digests: &Digests,
-) -> Result<Option<DigestedHead>, KeepError>
+) -> Result<Option<DigestedHead>, TableError>
     requires idle { IsIdle (state S.Store conn.old) }
     ensures tested { FindsOneIf result (λ db. HoldsBody db dictionary.now number (sent_of kept)
         × IsNew db (numbers_under digests.now (own_digest (sent_of kept))) (sent_of kept))
         (state S.Store conn.old) (state S.Store conn.new) }
     ensures head { IfOk result (λ found. IfSome found (IsDigestedFrom dictionary.now (sent_of kept))) }
-    ensures refused { IfErr result (λ e. e ≢ KeepError.Full) }
     ensures quiet { IsStill (state S.Store conn.old) (state S.Store conn.new) (fails result) }
 {
     let digest = digest_of(&kept.firm, &kept.project, kept.bytes.as_slice());
-    match examine_kept(conn, alloc, dictionary, number, &kept, digests.of(&digest)) {
-        Ok(Some(file)) => Ok(Some(DigestedHead {
-            known: into_known(kept, file),
-            digest,
-        })),
-        Ok(None) => Ok(None),
-        Err(error) => Err(error),
-    }
+    let numbers = digests.of(&digest);
+    let Some(file) = examine_kept(conn, alloc, dictionary, number, &kept, numbers)? else {
+        return Ok(None);
+    };
+    Ok(Some(DigestedHead {
+        known: into_known(kept, file),
+        digest,
+    }))
 }
 
 /// What is known of the deposit's file, if it has no finding, its lines and steps are kept, and none of these numbers is
@@ -192,24 +180,21 @@ fn examine_kept<S: Alter>(
     number: u32,
     kept: &Kept,
     numbers: &[u32],
-) -> Result<Option<KnownFile>, KeepError>
+) -> Result<Option<KnownFile>, TableError>
     requires idle { IsIdle (state S.Store conn.old) }
     ensures tested { FindsOneIf result (λ db. HoldsBody db dictionary.now number (sent_of kept.now)
         × IsNew db numbers.now (sent_of kept.now))
         (state S.Store conn.old) (state S.Store conn.new) }
     ensures known { IfOk result (λ found. IfSome found (KnowsFile dictionary.now (sent_of kept.now))) }
-    ensures refused { IfErr result (λ e. e ≢ KeepError.Full) }
     ensures quiet { IsStill (state S.Store conn.old) (state S.Store conn.new) (fails result) }
 {
-    let file = match examine_body(conn, alloc, dictionary, number, kept) {
-        Ok(Some(file)) => file,
-        Ok(None) => return Ok(None),
-        Err(error) => return Err(error),
+    let Some(file) = examine_body(conn, alloc, dictionary, number, kept)? else {
+        return Ok(None);
     };
-    match examine_repeats(conn, alloc, numbers, kept) {
-        Ok(true) => Ok(Some(file)),
-        Ok(false) => Ok(None),
-        Err(error) => Err(error),
+    if examine_repeats(conn, alloc, numbers, kept)? {
+        Ok(Some(file))
+    } else {
+        Ok(None)
     }
 }
 
@@ -219,25 +204,21 @@ fn examine_repeats<S: Alter>(
     alloc: Global,
     numbers: &[u32],
     kept: &Kept,
-) -> Result<bool, KeepError>
+) -> Result<bool, TableError>
     requires idle { IsIdle (state S.Store conn.old) }
     ensures tested { FindsOut result (λ db. IsNew db numbers.now (sent_of kept.now))
         (state S.Store conn.old) (state S.Store conn.new) }
-    ensures refused { IfErr result (λ e. e ≢ KeepError.Full) }
     ensures quiet { IsStill (state S.Store conn.old) (state S.Store conn.new) (fails result) }
 {
-    match read_equal(
+    let repeat = read_equal(
         conn,
         alloc,
         numbers,
         &kept.firm,
         &kept.project,
         kept.bytes.as_slice(),
-    ) {
-        Ok(Some(_number)) => Ok(false),
-        Ok(None) => Ok(true),
-        Err(error) => Err(error),
-    }
+    )?;
+    Ok(repeat.is_none())
 }
 
 /// What is known of the deposit's file, if it has no finding and is not too long, and its lines and steps are those that
@@ -248,12 +229,11 @@ fn examine_body<S: Alter>(
     dictionary: &Dictionary,
     number: u32,
     kept: &Kept,
-) -> Result<Option<KnownFile>, KeepError>
+) -> Result<Option<KnownFile>, TableError>
     requires idle { IsIdle (state S.Store conn.old) }
     ensures tested { FindsOneIf result (λ db. HoldsBody db dictionary.now number (sent_of kept.now))
         (state S.Store conn.old) (state S.Store conn.new) }
     ensures known { IfOk result (λ found. IfSome found (KnowsFile dictionary.now (sent_of kept.now))) }
-    ensures refused { IfErr result (λ e. e ≢ KeepError.Full) }
     ensures quiet { IsStill (state S.Store conn.old) (state S.Store conn.new) (fails result) }
 {
     let bytes = kept.bytes.as_slice();
@@ -263,7 +243,7 @@ fn examine_body<S: Alter>(
     match check(alloc, dictionary, bytes) {
         Ok(file) => examine_checked(conn, alloc, number, &file),
         Err(CheckError::Findings(_found)) => Ok(None),
-        Err(CheckError::NoMemory) => Err(KeepError::NoMemory),
+        Err(CheckError::NoMemory) => Err(TableError::NoMemory),
     }
 }
 
@@ -273,7 +253,7 @@ fn examine_checked<S: Alter>(
     alloc: Global,
     number: u32,
     file: &Checked<'_>,
-) -> Result<Option<KnownFile>, KeepError>
+) -> Result<Option<KnownFile>, TableError>
     requires idle { IsIdle (state S.Store conn.old) }
     requires clean { IsClean file.now }
     requires short { length file.now.bytes ≤ LIMIT }
@@ -281,19 +261,14 @@ fn examine_checked<S: Alter>(
         × HoldsSteps db number file.now.graph.steps)
         (state S.Store conn.old) (state S.Store conn.new) }
     ensures known { IfOk result (λ found. IfSome found (IsKnownOf file.now)) }
-    ensures refused { IfErr result (λ e. e ≢ KeepError.Full) }
     ensures quiet { IsStill (state S.Store conn.old) (state S.Store conn.new) (fails result) }
 {
-    let Ok(lines) = few_rows(alloc, file) else {
-        return Err(KeepError::NoMemory);
-    };
-    let Ok(known) = KnownFile::of(alloc, file, &lines) else {
-        return Err(KeepError::NoMemory);
-    };
-    match examine_file(conn, number, &lines, file.graph().steps()) {
-        Ok(true) => Ok(Some(known)),
-        Ok(false) => Ok(None),
-        Err(error) => Err(error),
+    let lines = few_rows(alloc, file)?;
+    let known = KnownFile::of(alloc, file, &lines)?;
+    if examine_file(conn, number, &lines, file.graph().steps())? {
+        Ok(Some(known))
+    } else {
+        Ok(None)
     }
 }
 
@@ -303,19 +278,18 @@ fn examine_file<S: Alter>(
     number: u32,
     lines: &[KeptRow],
     steps: &[(u32, u32)],
-) -> Result<bool, KeepError>
+) -> Result<bool, TableError>
     requires idle { IsIdle (state S.Store conn.old) }
     requires few { length lines.now ≤ 4294967295 }
     requires rising { IsAscending IsBefore steps.now }
     ensures tested { FindsOut result (λ db. HoldsLines db number lines.now × HoldsSteps db number steps.now)
         (state S.Store conn.old) (state S.Store conn.new) }
-    ensures refused { IfErr result (λ e. e ≢ KeepError.Full) }
     ensures quiet { IsStill (state S.Store conn.old) (state S.Store conn.new) (fails result) }
 {
-    match examine_lines(conn, number, lines) {
-        Ok(true) => examine_steps(conn, number, steps),
-        Ok(false) => Ok(false),
-        Err(error) => Err(error),
+    if examine_lines(conn, number, lines)? {
+        examine_steps(conn, number, steps)
+    } else {
+        Ok(false)
     }
 }
 
@@ -324,12 +298,11 @@ fn examine_lines<S: Alter>(
     conn: &mut Connection<S>,
     number: u32,
     lines: &[KeptRow],
-) -> Result<bool, KeepError>
+) -> Result<bool, TableError>
     requires idle { IsIdle (state S.Store conn.old) }
     requires few { length lines.now ≤ 4294967295 }
     ensures tested { FindsOut result (λ db. HoldsLines db number lines.now)
         (state S.Store conn.old) (state S.Store conn.new) }
-    ensures refused { IfErr result (λ e. e ≢ KeepError.Full) }
     ensures quiet { IsStill (state S.Store conn.old) (state S.Store conn.new) (fails result) }
 {
     let mut same = SameLines {
@@ -337,15 +310,13 @@ fn examine_lines<S: Alter>(
         at: 0,
         is: true,
     };
-    match take_shown(
+    take_shown(
         conn,
         "SELECT seq, grp, kind, line FROM lines WHERE deposit = ?1 ORDER BY seq",
         params![number],
         &mut same,
-    ) {
-        Ok(()) => Ok(are_all(same.is, same.at, lines.len())),
-        Err(error) => Err(error),
-    }
+    )?;
+    Ok(are_all(same.is, same.at, lines.len()))
 }
 
 /// Whether these are the steps that are kept of a deposit.
@@ -353,12 +324,11 @@ fn examine_steps<S: Alter>(
     conn: &mut Connection<S>,
     number: u32,
     steps: &[(u32, u32)],
-) -> Result<bool, KeepError>
+) -> Result<bool, TableError>
     requires idle { IsIdle (state S.Store conn.old) }
     requires rising { IsAscending IsBefore steps.now }
     ensures tested { FindsOut result (λ db. HoldsSteps db number steps.now)
         (state S.Store conn.old) (state S.Store conn.new) }
-    ensures refused { IfErr result (λ e. e ≢ KeepError.Full) }
     ensures quiet { IsStill (state S.Store conn.old) (state S.Store conn.new) (fails result) }
 {
     let mut same = SameSteps {
@@ -366,13 +336,11 @@ fn examine_steps<S: Alter>(
         at: 0,
         is: true,
     };
-    match take_shown(
+    take_shown(
         conn,
         "SELECT child, target FROM steps WHERE deposit = ?1 ORDER BY child, target",
         params![number],
         &mut same,
-    ) {
-        Ok(()) => Ok(are_all(same.is, same.at, steps.len())),
-        Err(error) => Err(error),
-    }
+    )?;
+    Ok(are_all(same.is, same.at, steps.len()))
 }

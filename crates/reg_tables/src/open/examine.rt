@@ -1,10 +1,10 @@
 //! Whether the tables are a register, whatever the marks are: meta, the numbers, then deposit by deposit.
 
-ghost use Rattle.std.specs.Prelude.{◌≡◌, ◌≢◌, ◌≤◌, ◌+◌, [], ℕ, List, length, map, false, Some, Err, IsTrue, IfOk};
+ghost use Rattle.std.specs.Prelude.{◌≡◌, ◌≤◌, ◌+◌, [], ℕ, List, length, map, false, Some, Err, IsTrue, IfOk};
 ghost use Rattle.std.specs.Prelude.{IfErr, IfSome, None};
 ghost use Rattle.sqlite.specs.State.{HasCleanDisk};
 ghost use Rattle.sqlite.specs.Held.{state};
-ghost use Rattle.reg_store.specs.Keep.{fails};
+ghost use Rattle.reg_tables.specs.Private.Errors.{fails};
 ghost use Rattle.reg_tables.specs.Quiet.{IsIdle, IsStill, FindsThat};
 ghost use Rattle.reg_tables.specs.Private.Found.{AreNumbersFromOne, FindsAll};
 ghost use Rattle.reg_tables.specs.Rows.{deposit_table, first_column};
@@ -16,7 +16,7 @@ ghost use Rattle.reg_tables.specs.Whole.{Counts};
 ghost use Rattle.reg_tables.specs.Adoption.{CountsDeposits, Examines, InEachFormat, MetaOf, gives_up};
 ghost use Rattle.sqlite.specs.Effect.{IsDatabase};
 
-use crate::error::AdoptError;
+use crate::error::{AdoptError, TableError};
 use crate::memory::digests::Digests;
 use crate::memory::{Found, Known};
 use crate::open::deposits::examine_deposits;
@@ -25,7 +25,7 @@ use crate::open::values::is_row;
 use crate::read::queries::query;
 use crate::schema::format::Format;
 use ags_dict::Dictionary;
-use reg_store::{KeepError, MOST, Progress};
+use reg_store::{MOST, Progress};
 use sqlite::types::ToSql;
 use sqlite::{Alter, Connection, Row};
 use std::alloc::Global;
@@ -61,22 +61,17 @@ pub(crate) fn examine<S: Alter, P: Progress>(
         → IsTrue (state S.Store conn.new).is_open }
     ensures quiet { IsStill (state S.Store conn.old) (state S.Store conn.new) (gives_up result) }
 {
-    let dictionary = match read_dictionary(conn, alloc, format, &mut found.dictionary_bytes) {
-        Ok(dictionary) => dictionary,
-        Err(error) => return Err(error),
-    };
+    let dictionary = read_dictionary(conn, alloc, format, &mut found.dictionary_bytes)?;
     let _schema = conn.schema();
-    match read_register(
+    let count = read_register(
         conn,
         alloc,
         &dictionary,
         &mut found.known,
         &mut found.digests,
         progress,
-    ) {
-        Ok(count) => Ok((dictionary, count)),
-        Err(error) => Err(error),
-    }
+    )?;
+    Ok((dictionary, count))
 }
 
 /// The dictionary of the register, if meta is that of the format, and how many bytes are in the rows of meta.
@@ -92,13 +87,9 @@ fn read_dictionary<S: Alter>(
         → IsTrue (state S.Store conn.new).is_open }
     ensures quiet { IsStill (state S.Store conn.old) (state S.Store conn.new) (gives_up result) }
 {
-    match read_meta(conn) {
-        Ok(rows) => {
-            *meta_bytes = body_bytes(&rows);
-            meta_dictionary(alloc, &rows, format)
-        }
-        Err(error) => Err(AdoptError::from(error)),
-    }
+    let rows = read_meta(conn)?;
+    *meta_bytes = body_bytes(&rows);
+    meta_dictionary(alloc, &rows, format)
 }
 
 /// How many deposits the register has, if the tables are one, whatever the marks are. Its tables are those of a format,
@@ -138,39 +129,33 @@ fn read_register<S: Alter, P: Progress>(
     // What is left in either case.
     ensures quiet { IsStill (state S.Store conn.old) (state S.Store conn.new) (gives_up result) }
 {
-    let count = match read_count(conn) {
-        Ok(Some(count)) => count,
-        Ok(None) => return Err(AdoptError::NotRegister),
-        Err(error) => return Err(AdoptError::from(error)),
+    let Some(count) = read_count(conn)? else {
+        return Err(AdoptError::NotRegister);
     };
-    match examine_deposits(conn, alloc, dictionary, count, known, digests, progress) {
-        Ok(true) => Ok(count),
-        Ok(false) => Err(AdoptError::NotRegister),
-        Err(error) => Err(AdoptError::from(error)),
+    if examine_deposits(conn, alloc, dictionary, count, known, digests, progress)? {
+        Ok(count)
+    } else {
+        Err(AdoptError::NotRegister)
     }
 }
 
 /// How many deposits there are, if their numbers are those from 1 on.
-fn read_count<S: Alter>(conn: &mut Connection<S>) -> Result<Option<u32>, KeepError>
+fn read_count<S: Alter>(conn: &mut Connection<S>) -> Result<Option<u32>, TableError>
     requires idle { IsIdle (state S.Store conn.old) }
     ensures counted { FindsThat result Counts (state S.Store conn.old) (state S.Store conn.new) }
     ensures few { IfOk result (λ found. IfSome found (λ count. count ≤ 999999)) }
-    ensures refused { IfErr result (λ e. e ≢ KeepError.Full) }
     ensures quiet { IsStill (state S.Store conn.old) (state S.Store conn.new) (fails result) }
 {
-    match read_numbers(conn) {
-        Ok(rows) => Ok(count_numbers(&rows)),
-        Err(error) => Err(error),
-    }
+    let rows = read_numbers(conn)?;
+    Ok(count_numbers(&rows))
 }
 
-fn read_numbers<S: Alter>(conn: &mut Connection<S>) -> Result<Vec<Row>, KeepError>
+fn read_numbers<S: Alter>(conn: &mut Connection<S>) -> Result<Vec<Row>, TableError>
     requires idle { IsIdle (state S.Store conn.old) }
     ensures all { FindsAll result (λ db. map first_column (deposit_table db.trees))
         (state S.Store conn.old) (state S.Store conn.new) }
     ensures found { FindsThat result (λ db rows. AreNumbersFromOne db rows.items)
         (state S.Store conn.old) (state S.Store conn.new) }
-    ensures refused { IfErr result (λ e. e ≢ KeepError.Full) }
     ensures quiet { IsStill (state S.Store conn.old) (state S.Store conn.new) (fails result) }
 {
     query(conn, "SELECT number FROM deposits ORDER BY number", &[])

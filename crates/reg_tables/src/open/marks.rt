@@ -1,10 +1,10 @@
 //! Which deposits are marked as withdrawn.
 
-ghost use Rattle.std.specs.Prelude.{◌≡◌, ◌≢◌, ◌↔◌, List, Bool, None, Some, Ok, length, slice_get, false, IsTrue, IfOk};
-ghost use Rattle.std.specs.Prelude.{IfErr, IfSome};
+ghost use Rattle.std.specs.Prelude.{◌≡◌, ◌↔◌, List, Bool, None, Some, Ok, length, slice_get, false, IsTrue, IfOk};
+ghost use Rattle.std.specs.Prelude.{IfSome};
 ghost use Rattle.sqlite.specs.State.{HasCleanDisk};
 ghost use Rattle.sqlite.specs.Held.{state};
-ghost use Rattle.reg_store.specs.Keep.{fails};
+ghost use Rattle.reg_tables.specs.Private.Errors.{fails};
 ghost use Rattle.reg_tables.specs.Adoption.{FindsMarks, gives_up};
 ghost use Rattle.reg_tables.specs.Private.Found.{AreMarksInOrder};
 ghost use Rattle.reg_tables.specs.Quiet.{FindsThat, IsIdle, IsStill};
@@ -12,10 +12,9 @@ ghost use Rattle.reg_tables.specs.Register.{mark_rows};
 ghost use Rattle.reg_tables.specs.Rows.{number_row};
 ghost use Rattle.reg_tables.specs.Tables.{HasMarkTable};
 
-use crate::error::AdoptError;
+use crate::error::{AdoptError, TableError};
 use crate::open::values::is_row;
 use crate::read::queries::query;
-use reg_store::KeepError;
 use sqlite::types::ToSql;
 use sqlite::{Alter, Connection, Row};
 use std::alloc::{AllocError, Global};
@@ -34,10 +33,7 @@ pub(crate) fn read_marks<S: Alter>(
         → IsTrue (state S.Store conn.new).is_open }
     ensures quiet { IsStill (state S.Store conn.old) (state S.Store conn.new) (gives_up result) }
 {
-    let rows = match read_mark_rows(conn) {
-        Ok(rows) => rows,
-        Err(error) => return Err(AdoptError::from(error)),
-    };
+    let rows = read_mark_rows(conn)?;
     match marks_in(alloc, &rows, count) {
         Ok(Some(marks)) => Ok(marks),
         Ok(None) => Err(AdoptError::NotRegister),
@@ -46,14 +42,13 @@ pub(crate) fn read_marks<S: Alter>(
 }
 
 /// The rows of the table, in the order of their numbers.
-fn read_mark_rows<S: Alter>(conn: &mut Connection<S>) -> Result<Vec<Row>, KeepError>
+fn read_mark_rows<S: Alter>(conn: &mut Connection<S>) -> Result<Vec<Row>, TableError>
     requires idle { IsIdle (state S.Store conn.old) }
     requires schema { HasCleanDisk (state S.Store conn.old) → HasMarkTable (state S.Store conn.old).now.schema }
     ensures found { FindsThat result (λ db rows. AreMarksInOrder db rows.items)
         (state S.Store conn.old) (state S.Store conn.new) }
     ensures open { HasCleanDisk (state S.Store conn.new) → fails result ≡ false
         → IsTrue (state S.Store conn.new).is_open }
-    ensures refused { IfErr result (λ e. e ≢ KeepError.Full) }
     ensures quiet { IsStill (state S.Store conn.old) (state S.Store conn.new) (fails result) }
 {
     query(

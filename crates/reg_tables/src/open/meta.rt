@@ -12,16 +12,15 @@ ghost use Rattle.sqlite.specs.State.{HasCleanDisk};
 ghost use Rattle.sqlite.specs.Held.{state};
 ghost use Rattle.reg_tables.specs.Quiet.{IsIdle, IsStill, FindsThat};
 ghost use Rattle.reg_tables.specs.Private.Found.{AreMetaByName, FindsAll};
-ghost use Rattle.reg_store.specs.Keep.{fails};
+ghost use Rattle.reg_tables.specs.Private.Errors.{fails};
 ghost use Rattle.reg_tables.specs.Rows.{columns_3};
 
-use crate::error::AdoptError;
+use crate::error::{AdoptError, TableError};
 use crate::open::values::{holds, is_row};
 use crate::read::queries::query;
 use crate::schema::format::Format;
 use ags_dict::{DictError, Dictionary};
 use ags_rows::READABLE;
-use reg_store::KeepError;
 use sqlite::types::ValueRef;
 use sqlite::{Alter, Connection, Row};
 use std::alloc::Global;
@@ -149,14 +148,13 @@ pub(crate) fn body_bytes(rows: &[Row]) -> usize {
 }
 
 /// The rows of meta, ordered by name.
-pub(crate) fn read_meta<S: Alter>(conn: &mut Connection<S>) -> Result<Vec<Row>, KeepError>
+pub(crate) fn read_meta<S: Alter>(conn: &mut Connection<S>) -> Result<Vec<Row>, TableError>
     requires idle { IsIdle (state S.Store conn.old) }
     ensures all { FindsAll result (λ db. map columns_3 (db.trees 0)) (state S.Store conn.old) (state S.Store conn.new) }
     ensures found { FindsThat result (λ db rows. AreMetaByName db rows.items)
         (state S.Store conn.old) (state S.Store conn.new) }
     ensures open { HasCleanDisk (state S.Store conn.new) → fails result ≡ false
         → IsTrue (state S.Store conn.new).is_open }
-    ensures refused { IfErr result (λ e. e ≢ KeepError.Full) }
     ensures quiet { IsStill (state S.Store conn.old) (state S.Store conn.new) (fails result) }
 {
     query(conn, "SELECT name, num, body FROM meta ORDER BY name", &[])

@@ -14,7 +14,7 @@ ghost use Rattle.reg_tables.specs.Opened.{RefusesMigration, ShowsFiles};
 ghost use Rattle.reg_tables.specs.Quiet.{StaysIfClean, StaysIfOpen};
 ghost use Rattle.reg_tables.specs.declared.schema.format.Format.TheVariants.{First};
 
-use crate::error::{AdoptError, MigrateError};
+use crate::error::{AdoptError, MigrateError, TableError};
 use crate::keep::SqlKeep;
 use crate::memory::Memory;
 use crate::open::connect;
@@ -24,7 +24,7 @@ use crate::open::tables::examine_tables;
 use crate::schema::format::Format;
 use crate::write::change::change_tables;
 use ags_dict::Dictionary;
-use reg_store::{KeepError, Progress};
+use reg_store::Progress;
 use sqlite::{Alter, Connection, FileFrom, FileStore, Start};
 use std::alloc::Global;
 
@@ -104,7 +104,7 @@ impl<F: Start> SqlKeep<FileStore<FileFrom<F>>> {
                 Ok(keep) => Ok(keep),
                 Err((error, connection)) => Err((error, Some(connection))),
             },
-            Err(KeepError::NoMemory) => Err((AdoptError::NoMemory, None)),
+            Err(TableError::NoMemory) => Err((AdoptError::NoMemory, None)),
             Err(_) => Err((AdoptError::Store, None)),
         }
     }
@@ -136,19 +136,11 @@ fn migrate_tables<S: Alter, P: Progress>(
     ensures left { IfErr result (λ e. SurvivesRefusedMigration e
         (state S.Store conn.old) (state S.Store conn.new)) }
 {
-    match examine_tables(conn, Format::First) {
-        Ok(()) => {}
-        Err(error) => return Err(error),
-    }
-    let known = match recall_first(conn, alloc, progress) {
-        Ok(known) => known,
-        Err(error) => return Err(error),
-    };
+    examine_tables(conn, Format::First)?;
+    let known = recall_first(conn, alloc, progress)?;
     if known.1.try_start(alloc).is_err() {
         return Err(AdoptError::NoMemory);
     }
-    match change_tables(conn, &SecondFormat) {
-        Ok(()) => Ok(known),
-        Err(error) => Err(AdoptError::from(error)),
-    }
+    change_tables(conn, &SecondFormat)?;
+    Ok(known)
 }

@@ -41,14 +41,8 @@ pub(crate) fn recall<S: Alter, P: Progress>(
     ensures quiet { IsStill (state S.Store conn.old) (state S.Store conn.new) (gives_up result) }
 {
     let mut known = Found::new(alloc);
-    let (dictionary, count) = match examine(conn, alloc, Format::Second, &mut known, progress) {
-        Ok(found) => found,
-        Err(error) => return Err(error),
-    };
-    let marks = match read_marks(conn, alloc, count) {
-        Ok(marks) => marks,
-        Err(error) => return Err(error),
-    };
+    let (dictionary, count) = examine(conn, alloc, Format::Second, &mut known, progress)?;
+    let marks = read_marks(conn, alloc, count)?;
     Ok((dictionary, Memory::of(known, &marks)))
 }
 
@@ -69,10 +63,7 @@ pub(crate) fn recall_first<S: Alter, P: Progress>(
     ensures quiet { IsStill (state S.Store conn.old) (state S.Store conn.new) (gives_up result) }
 {
     let mut known = Found::new(alloc);
-    let (dictionary, count) = match examine(conn, alloc, Format::First, &mut known, progress) {
-        Ok(found) => found,
-        Err(error) => return Err(error),
-    };
+    let (dictionary, count) = examine(conn, alloc, Format::First, &mut known, progress)?;
     let Ok(marks) = Vec::from_elem(alloc, false, count as usize) else {
         return Err(AdoptError::NoMemory);
     };

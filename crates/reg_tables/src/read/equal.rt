@@ -1,15 +1,16 @@
 //! Reads which of some deposits is equal to a file that comes.
 
-ghost use Rattle.std.specs.Prelude.{◌≡◌, ◌≢◌, true, IfOk, IfErr, IfSome};
+ghost use Rattle.std.specs.Prelude.{◌≡◌, true, IfOk, IfSome};
 ghost use Rattle.sqlite.specs.Held.{state};
-ghost use Rattle.reg_store.specs.Keep.{fails};
+ghost use Rattle.reg_tables.specs.Private.Errors.{fails};
 ghost use Rattle.reg_tables.specs.Quiet.{IsIdle, IsStill};
 ghost use Rattle.reg_tables.specs.Private.Found.{FindsEqual, FindsIfEqual, FindsNoEqual};
 ghost use Rattle.reg_tables.specs.Private.Digests.{is_among};
 
+use crate::error::TableError;
 use crate::read::read_deposit;
 use reg_policy::Name;
-use reg_store::{KeepError, is_equal};
+use reg_store::is_equal;
 use sqlite::{Alter, Connection};
 use std::alloc::Global;
 
@@ -21,20 +22,17 @@ pub(crate) fn read_equal<S: Alter>(
     firm: &Name,
     project: &Name,
     bytes: &[u8],
-) -> Result<Option<u32>, KeepError>
+) -> Result<Option<u32>, TableError>
     requires idle { IsIdle (state S.Store conn.old) }
     ensures equal { FindsEqual result firm.now project.now bytes.now (state S.Store conn.old) (state S.Store conn.new) }
     ensures among { IfOk result (λ found. IfSome found (λ n. is_among n numbers.now ≡ true)) }
     ensures none { FindsNoEqual result numbers.now firm.now project.now bytes.now
         (state S.Store conn.old) (state S.Store conn.new) }
-    ensures refused { IfErr result (λ e. e ≢ KeepError.Full) }
     ensures quiet { IsStill (state S.Store conn.old) (state S.Store conn.new) (fails result) }
 {
     for number in numbers {
-        match compare_deposit(conn, alloc, *number, firm, project, bytes) {
-            Ok(true) => return Ok(Some(*number)),
-            Ok(false) => {}
-            Err(error) => return Err(error),
+        if compare_deposit(conn, alloc, *number, firm, project, bytes)? {
+            return Ok(Some(*number));
         }
     }
     Ok(None)
@@ -48,15 +46,12 @@ fn compare_deposit<S: Alter>(
     firm: &Name,
     project: &Name,
     bytes: &[u8],
-) -> Result<bool, KeepError>
+) -> Result<bool, TableError>
     requires idle { IsIdle (state S.Store conn.old) }
     ensures equal { FindsIfEqual result number firm.now project.now bytes.now
         (state S.Store conn.old) (state S.Store conn.new) }
-    ensures refused { IfErr result (λ e. e ≢ KeepError.Full) }
     ensures quiet { IsStill (state S.Store conn.old) (state S.Store conn.new) (fails result) }
 {
-    match read_deposit(conn, alloc, number) {
-        Ok(kept) => Ok(is_equal(&kept, firm, project, bytes)),
-        Err(error) => Err(error),
-    }
+    let kept = read_deposit(conn, alloc, number)?;
+    Ok(is_equal(&kept, firm, project, bytes))
 }

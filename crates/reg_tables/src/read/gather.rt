@@ -1,6 +1,6 @@
 //! The rows of an answer, read one at a time.
 
-ghost use Rattle.std.specs.Prelude.{◌≡◌, ◌≢◌, ◌++◌, ◌∷◌, [], List, false, IsTrue, IfOk, IfErr, OnOk};
+ghost use Rattle.std.specs.Prelude.{◌≡◌, ◌++◌, ◌∷◌, [], List, false, IsTrue, OnOk};
 ghost use Rattle.sqlite.specs.Order.{Row as Values};
 ghost use Rattle.sqlite.specs.Values.{bound};
 ghost use Rattle.sqlite.specs.State.{HasCleanDisk, Survives};
@@ -8,10 +8,10 @@ ghost use Rattle.sqlite.specs.Held.{state};
 ghost use Rattle.reg_tables.specs.Private.Meaning.{IsPlainText};
 ghost use Rattle.reg_tables.specs.Quiet.{IsIdle, IsStill, StaysIfOpen};
 ghost use Rattle.reg_tables.specs.Private.Found.{TakesEachShown, TakesShown};
-ghost use Rattle.reg_store.specs.Keep.{fails};
+ghost use Rattle.reg_tables.specs.Private.Errors.{fails};
 
+use crate::error::TableError;
 use crate::read::queries::refusal;
-use reg_store::KeepError;
 use sqlite::types::ValueRef;
 use sqlite::{Alter, Connection, Error, Row};
 
@@ -22,13 +22,12 @@ pub(crate) fn take_shown<S: Alter, G: Gather>(
     sql: &str,
     params: &[ValueRef<'_>],
     into: &mut G,
-) -> Result<(), KeepError>
+) -> Result<(), TableError>
     requires plain { IsPlainText sql.now }
     requires idle { IsIdle (state S.Store conn.old) }
     requires empty { G.holds into.old into.old [] }
     ensures shown { TakesShown result sql.now (bound params.now) (G.holds into.old into.new)
         (state S.Store conn.old) (state S.Store conn.new) }
-    ensures refused { IfErr result (λ e. e ≢ KeepError.Full) }
     ensures quiet { IsStill (state S.Store conn.old) (state S.Store conn.new) (fails result) }
 {
     match take_each(conn, sql, params, into) {
@@ -43,10 +42,9 @@ pub(crate) trait Gather {
     ghost holds: { Self → Self → List Values → Type 0 };
 
     /// Takes the next row.
-    fn take(&mut self, row: &Row) -> Result<(), KeepError>
-        ensures taken { OnOk result ((first : Self) (rows : List Values) → holds first self.old rows
-            → holds first self.new (rows ++ row.now ∷ [])) }
-        ensures refused { IfErr result (λ e. e ≢ KeepError.Full) };
+    fn take(&mut self, row: &Row) -> Result<(), TableError>
+        ensures { OnOk result ((first : Self) (rows : List Values) → holds first self.old rows
+            → holds first self.new (rows ++ row.now ∷ [])) };
 }
 
 /// Takes each row of an answer. The outer error is the database's, the inner that of a row.
@@ -55,7 +53,7 @@ fn take_each<S: Alter, G: Gather>(
     sql: &str,
     params: &[ValueRef<'_>],
     into: &mut G,
-) -> Result<Result<(), KeepError>, Error>
+) -> Result<Result<(), TableError>, Error>
     requires plain { IsPlainText sql.now }
     requires idle { IsIdle (state S.Store conn.old) }
     requires empty { G.holds into.old into.old [] }
@@ -65,12 +63,9 @@ fn take_each<S: Alter, G: Gather>(
     ensures open { HasCleanDisk (state S.Store conn.new) → OnOk result (IsTrue (state S.Store conn.new).is_open) }
     ensures same { StaysIfOpen (state S.Store conn.old) (state S.Store conn.new) }
 
-    // What was taken of the answer, and which refusal of a row never comes.
+    // What was taken of the answer, and what a crash may leave.
     ensures shown { TakesEachShown result sql.now (bound params.now) (G.holds into.old into.new)
         (state S.Store conn.old) (state S.Store conn.new) }
-    ensures refused { IfOk result (λ taken. IfErr taken (λ e. e ≢ KeepError.Full)) }
-
-    // What a crash may leave.
     ensures crash { Survives (state S.Store conn.old) (state S.Store conn.new) (λ _. ⊥) }
 {
     let mut rows = conn.query(sql, params)?;
@@ -82,5 +77,5 @@ fn take_each<S: Alter, G: Gather>(
             return Ok(Err(error));
         }
     }
-    Ok(Err(KeepError::Store))
+    Ok(Err(TableError::Store))
 }

@@ -1,17 +1,17 @@
 //! Reads the steps that are kept of a deposit, between its DATA rows.
 
-ghost use Rattle.std.specs.Prelude.{◌≡◌, ◌≢◌, IfErr, IfOk};
+ghost use Rattle.std.specs.Prelude.{◌≡◌, IfOk};
 ghost use Rattle.sqlite.specs.Held.{state};
-ghost use Rattle.reg_store.specs.Keep.{fails};
+ghost use Rattle.reg_tables.specs.Private.Errors.{fails};
 ghost use Rattle.reg_tables.specs.Private.Methods.{HasSteps, HoldsSteps};
 ghost use Rattle.reg_tables.specs.Quiet.{FindsThat, IsIdle, IsStill};
 ghost use Rattle.reg_tables.specs.Rows.{step_table};
 ghost use Rattle.reg_tables.specs.Private.Found.{OfSteps};
 
+use crate::error::TableError;
 use crate::read::gather::take_shown;
 use crate::read::rows::KeptSteps;
 use ags_links::Graph;
-use reg_store::KeepError;
 use sqlite::{Alter, Connection, params};
 use std::alloc::Global;
 
@@ -21,18 +21,15 @@ pub(crate) fn read_graph<S: Alter>(
     alloc: Global,
     number: u32,
     rows: u32,
-) -> Result<Graph, KeepError>
+) -> Result<Graph, TableError>
     requires idle { IsIdle (state S.Store conn.old) }
     ensures rows { IfOk result (λ graph. graph.rows ≡ rows) }
     ensures steps { FindsThat result (λ db graph. HasSteps number (step_table db.trees) graph.steps)
         (state S.Store conn.old) (state S.Store conn.new) }
-    ensures refused { IfErr result (λ e. e ≢ KeepError.Full) }
     ensures quiet { IsStill (state S.Store conn.old) (state S.Store conn.new) (fails result) }
 {
-    match read_steps(conn, alloc, number) {
-        Ok(steps) => graph_of(rows, steps),
-        Err(error) => Err(error),
-    }
+    let steps = read_steps(conn, alloc, number)?;
+    graph_of(rows, steps)
 }
 
 /// The steps that are kept of a deposit.
@@ -40,37 +37,33 @@ fn read_steps<S: Alter>(
     conn: &mut Connection<S>,
     alloc: Global,
     number: u32,
-) -> Result<Vec<(u32, u32)>, KeepError>
+) -> Result<Vec<(u32, u32)>, TableError>
     requires idle { IsIdle (state S.Store conn.old) }
     ensures found { OfSteps result number (λ steps read. read.items ≡ steps)
         (state S.Store conn.old) (state S.Store conn.new) }
     ensures held { FindsThat result (λ db read. HoldsSteps db number read.items)
         (state S.Store conn.old) (state S.Store conn.new) }
-    ensures refused { IfErr result (λ e. e ≢ KeepError.Full) }
     ensures quiet { IsStill (state S.Store conn.old) (state S.Store conn.new) (fails result) }
 {
     let mut steps = KeptSteps {
         steps: Vec::new(alloc),
     };
-    match take_shown(
+    take_shown(
         conn,
         "SELECT child, target FROM steps WHERE deposit = ?1 ORDER BY child, target",
         params![number],
         &mut steps,
-    ) {
-        Ok(()) => Ok(steps.steps),
-        Err(error) => Err(error),
-    }
+    )?;
+    Ok(steps.steps)
 }
 
 /// A graph of so many rows with these steps, where each lies between two of them.
-fn graph_of(rows: u32, steps: Vec<(u32, u32)>) -> Result<Graph, KeepError>
+fn graph_of(rows: u32, steps: Vec<(u32, u32)>) -> Result<Graph, TableError>
     ensures rows { IfOk result (λ graph. graph.rows ≡ rows) }
     ensures steps { IfOk result (λ graph. graph.steps ≡ steps.items) }
-    ensures refused { IfErr result (λ e. e ≢ KeepError.Full) }
 {
     match Graph::new(rows, steps) {
         Some(graph) => Ok(graph),
-        None => Err(KeepError::Store),
+        None => Err(TableError::Store),
     }
 }

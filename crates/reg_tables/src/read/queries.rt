@@ -1,29 +1,28 @@
 //! One query of the register, and why a call of the database fails.
 
-ghost use Rattle.std.specs.Prelude.{◌≡◌, ◌≢◌, ◌↔◌, false, IsTrue, IfErr, OnOk};
+ghost use Rattle.std.specs.Prelude.{◌≡◌, false, IsTrue, OnOk};
 ghost use Rattle.sqlite.specs.Values.{bound};
 ghost use Rattle.sqlite.specs.State.{HasCleanDisk, Survives, IsUnchanged};
 ghost use Rattle.sqlite.specs.Held.{state};
 ghost use Rattle.reg_tables.specs.Quiet.{IsIdle, IsSettled, IsStill, StaysIfOpen};
 ghost use Rattle.reg_tables.specs.Private.Found.{FindsShown, OnlyShows};
-ghost use Rattle.reg_store.specs.Keep.{fails, is_store};
+ghost use Rattle.reg_tables.specs.Private.Errors.{fails, is_store};
 
-use reg_store::KeepError;
+use crate::error::{TableError, is_memory};
 use sqlite::types::ValueRef;
-use sqlite::{Alter, Connection, Error, ErrorCode, Row};
+use sqlite::{Alter, Connection, Error, Row};
 
 /// The rows that a query of the register shows. `NoMemory` is answered only where the connection is known to be open.
 pub(crate) fn query<S: Alter>(
     conn: &mut Connection<S>,
     sql: &str,
     params: &[ValueRef<'_>],
-) -> Result<Vec<Row>, KeepError>
+) -> Result<Vec<Row>, TableError>
     requires plain { OnlyShows sql.now (state S.Store conn.old) }
     requires idle { IsIdle (state S.Store conn.old) }
     ensures shown { FindsShown result sql.now (bound params.now) (state S.Store conn.old) (state S.Store conn.new) }
     ensures open { HasCleanDisk (state S.Store conn.new) → fails result ≡ false
         → IsTrue (state S.Store conn.new).is_open }
-    ensures refused { IfErr result (λ e. e ≢ KeepError.Full) }
     ensures quiet { IsStill (state S.Store conn.old) (state S.Store conn.new) (fails result) }
 {
     match ask(conn, sql, params) {
@@ -50,19 +49,18 @@ fn ask<S: Alter>(
 
 /// Why a call failed. `NoMemory` is answered only where the connection is known to be open.
 #[tactic(auto, using(crate::proofs::QueryLemmas::survives_none))]
-pub(crate) fn refusal<S: Alter>(conn: &mut Connection<S>, error: &Error) -> KeepError
+pub(crate) fn refusal<S: Alter>(conn: &mut Connection<S>, error: &Error) -> TableError
     requires settled { HasCleanDisk (state S.Store conn.old) → IsSettled (state S.Store conn.old) }
     ensures known { HasCleanDisk (state S.Store conn.new) → is_store result ≡ false
         → IsUnchanged (state S.Store conn.old) (state S.Store conn.new) }
-    ensures refused { result ≢ KeepError.Full }
     ensures still { StaysIfOpen (state S.Store conn.old) (state S.Store conn.new) }
     ensures mode { conn.old.in_transaction ≡ false → conn.new.in_transaction ≡ false }
     ensures crash { Survives (state S.Store conn.old) (state S.Store conn.new) (λ _. ⊥) }
 {
     if is_memory(error) && probe(conn) {
-        KeepError::NoMemory
+        TableError::NoMemory
     } else {
-        KeepError::Store
+        TableError::Store
     }
 }
 
@@ -82,23 +80,4 @@ fn probe<S: Alter>(conn: &mut Connection<S>) -> bool
         Err(Error::SqlInputError(_)) => true,
         _ => false,
     }
-}
-
-/// What an error of the database is answered: NoMemory, or else Store.
-pub(crate) fn keep_error(error: &Error) -> KeepError
-    ensures refused { result ≢ KeepError.Full }
-    ensures store { result ≡ KeepError.Store → error.now ≢ Error.SqliteFailure ErrorCode.OutOfMemory }
-{
-    if is_memory(error) {
-        KeepError::NoMemory
-    } else {
-        KeepError::Store
-    }
-}
-
-/// Whether the error is out of memory.
-fn is_memory(error: &Error) -> bool
-    ensures { IsTrue result ↔ (error.now ≡ Error.SqliteFailure ErrorCode.OutOfMemory) }
-{
-    matches!(error, Error::SqliteFailure(ErrorCode::OutOfMemory))
 }

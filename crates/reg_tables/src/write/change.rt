@@ -1,19 +1,19 @@
 //! A change of the tables in a transaction of its own.
 
-ghost use Rattle.std.specs.Prelude.{◌≡◌, ◌≢◌, false, IsTrue, IfErr, OnOk, OnErr};
+ghost use Rattle.std.specs.Prelude.{◌≡◌, false, IsTrue, OnOk, OnErr};
 ghost use Rattle.sqlite.specs.Schema.{Schema};
 ghost use Rattle.sqlite.specs.Effect.{Database};
 ghost use Rattle.sqlite.specs.State.{HasCleanDisk, Survives};
 ghost use Rattle.sqlite.specs.Held.{state};
-ghost use Rattle.reg_store.specs.Keep.{fails};
+ghost use Rattle.reg_tables.specs.Private.Errors.{fails};
 ghost use Rattle.reg_tables.specs.Private.Commits.{MakesIfOk, CommitsAll, Makes, UndoesIfOpen, UndoesUnlessFailed};
 ghost use Rattle.reg_tables.specs.Private.Commits.{WasOpenIfOpen};
 ghost use Rattle.reg_tables.specs.Private.Inside.{ChangesInside, CommitsNothing, HasSchema, HasTransaction, state_in};
 ghost use Rattle.reg_tables.specs.Private.KeepLaws.{ChangesOf};
 ghost use Rattle.reg_tables.specs.Quiet.{IsSettled, StaysIfOpen};
 
+use crate::error::TableError;
 use crate::read::queries::refusal;
-use reg_store::KeepError;
 use sqlite::{Alter, Connection, Error, Transaction};
 
 /// Changes the tables in one transaction. `NoMemory` is answered only where nothing changed.
@@ -21,7 +21,7 @@ use sqlite::{Alter, Connection, Error, Transaction};
 pub(crate) fn change_tables<S: Alter, C: Change>(
     conn: &mut Connection<S>,
     change: &C,
-) -> Result<(), KeepError>
+) -> Result<(), TableError>
     requires mode { conn.old.in_transaction ≡ false }
     requires settled { HasCleanDisk (state S.Store conn.old) → IsSettled (state S.Store conn.old) }
     requires schema { HasSchema (state S.Store conn.old) (C.from change.now) }
@@ -30,8 +30,7 @@ pub(crate) fn change_tables<S: Alter, C: Change>(
     ensures made { MakesIfOk result (Makes (C.makes change.now)) (state S.Store conn.old) (state S.Store conn.new) }
     ensures settled { CommitsAll result (state S.Store conn.new) }
 
-    // Which refusal never comes, and what the others say of the connection.
-    ensures refused { IfErr result (λ e. e ≢ KeepError.Full) }
+    // What a refusal says of the connection.
     ensures was_open { HasCleanDisk (state S.Store conn.new) → fails result ≡ false
         → OnErr result (IsTrue (state S.Store conn.old).is_open) }
     ensures undone { UndoesUnlessFailed result (state S.Store conn.old) (state S.Store conn.new) }

@@ -1,11 +1,11 @@
-use Rattle.std.proofs.Common.{rules, arith, ℕ, List, ◌≡◌, ◌<◌, false, length, refl, sym, ap, subst, ◌+◌, ◌++◌, ◌∷◌, [], ◌∙◌}
+use Rattle.std.proofs.Common.{Err, rules, arith, ℕ, List, ◌≡◌, ◌<◌, false, length, refl, sym, ap, subst, ◌+◌, ◌++◌, ◌∷◌, [], ◌∙◌}
 use Rattle.std.proofs.lemmas.List.{length_push}
 use Rattle.sqlite.specs.Effect.{Database}
 use Rattle.sqlite.specs.State.{HasCleanDisk, Survives}
 use Rattle.sqlite.specs.Held.{state}
 use Rattle.reg_store.specs.Deposit.{Deposit, sents, new_deposit}
 use Rattle.reg_store.specs.Sent.{Sent}
-use Rattle.reg_store.specs.Keep.{is_store}
+use Rattle.reg_tables.specs.Private.Errors.{is_store, keep_error}
 use Rattle.reg_store.specs.Fit.{IsFileOf, kept_rows}
 use Rattle.reg_tables.proofs.QuietLaws.{clean_before}
 use Rattle.reg_tables.specs.Rows.{deposit_from}
@@ -19,6 +19,7 @@ use Rattle.reg_tables.specs.Private.KeepLaws.{ChangesOf, PutsOf}
 use Rattle.reg_tables.proofs.KeepLaws.{HoldsNext, BecomesNext, counted_at, crash_at, idle_at, keeps_same, next_at, put_next}
 use Rattle.reg_tables.proofs.KeepLaws.{schema_at, settled_of, text_committed, whole_next}
 use Rattle.reg_tables.proofs.AddsLemmas.{opened_at}
+use Rattle.reg_tables.proofs.ReadsLemmas.{adds_as, error_fails}
 use Rattle.reg_tables.proofs.keep.SqlKeepKeep.add.Given.{Over}
 use Rattle.reg_tables.proofs.keep.SqlKeepKeep.add.Goals as goal
 
@@ -41,7 +42,7 @@ invariant_of-self-in-Err-clause-kept g c works clean =
     let old = state g.S.Store keep.connection in
     let new = state g.S.Store c.add_checked-added.new.conn in
     let first = clean_before old new c.add_checked-added.ensures.crash clean in
-    let bare : is_store c.in-Err.error ≡ false = sym c.is_store_error-self.ensures ∙ works in
+    let bare : is_store c.in-Err.error ≡ false = sym c.answer.ensures.failing ∙ works in
     let was = keep.kept c.requires.working first in
     let undone = c.in-Err.ensures.undone clean bare in
     subst (λ n. ∥ KeepsRegister new keep.dictionary n ∥₁) (sym c.make_room-room.ensures.same) (keeps_same {old = old} {new = new} was (c.in-Err.ensures.open clean bare) (undone.0 ∙ settled_of was) undone.1)
@@ -52,7 +53,7 @@ invariant_of-self-in-Err-clause-agrees g c works clean =
     let old = state g.S.Store keep.connection in
     let new = state g.S.Store c.add_checked-added.new.conn in
     let first = clean_before old new c.add_checked-added.ensures.crash clean in
-    let bare : is_store c.in-Err.error ≡ false = sym c.is_store_error-self.ensures ∙ works in
+    let bare : is_store c.in-Err.error ≡ false = sym c.answer.ensures.failing ∙ works in
     subst (λ (db : Database). Agrees c.make_room-room.new.self keep.dictionary (deposits_in db.trees)) (sym (c.in-Err.ensures.undone clean bare).1)
     (c.make_room-room.ensures.agrees keep.dictionary (deposits_in old.committed.trees) (keep.agrees c.requires.working first))
 
@@ -163,17 +164,18 @@ returns-clause-leaves g c =
     let becomes = λ (clean : HasCleanDisk new). put_next {old = old} d file low (ready clean) in
     let Change = AddsFile (count + 1) d (kept_rows file.groups) file.graph.steps in
     let crash = subst (λ n. Survives old new (PutsOf old (n + 1) d (kept_rows file.groups) file.graph.steps)) c.count-count.ensures c.add_checked-added.ensures.crash in
-    record {
+    let same = error_fails c.in-Err.error in
+    adds_as _ _ _ (Err (keep_error c.in-Err.error)) c.answer.result c.answer.ensures.answer (record {
       sound = before;
       same_dictionary = refl;
       same_limit = refl;
-      failing = c.is_store_error-self.ensures;
+      failing = c.answer.ensures.failing ∙ sym same;
       added = λ clean. tt;
-      refused = λ clean well. ap (λ (db : Database). deposits_in db.trees) (c.in-Err.ensures.undone clean well).1;
-      same_text = λ clean well. ap (λ (db : Database). text_in db.trees) (c.in-Err.ensures.undone clean well).1;
+      refused = λ clean well. ap (λ (db : Database). deposits_in db.trees) (c.in-Err.ensures.undone clean (sym same ∙ well)).1;
+      same_text = λ clean well. ap (λ (db : Database). text_in db.trees) (c.in-Err.ensures.undone clean (sym same ∙ well)).1;
       crash = λ clean. crash_at {old = old} {new = new} Change (list ++ new_deposit d ∷ []) (keep.kept c.requires.working (before clean)) (becomes clean) (λ db put. put.meta) crash clean;
       whole = λ clean. whole_next {old = old} {new = new} Change (list ++ new_deposit d ∷ []) (keep.kept c.requires.working (before clean)) (becomes clean) crash clean;
-    }
+    })
 
 pub returns-then-count-ge-MOST-clause-full : goal.returns-then-count-ge-MOST-clause-full
 returns-then-count-ge-MOST-clause-full g c clean is =

@@ -1,8 +1,9 @@
-use Rattle.std.proofs.Common.{rules, ◌≡◌, false, IfOk, Ok, Result, refl, subst, sym, ◌∙◌}
+use Rattle.std.proofs.Common.{rules, ◌≡◌, false, IfOk, Ok, Result, ap, refl, subst, sym, ◌∙◌}
 use Rattle.sqlite.specs.Held.{state}
-use Rattle.reg_store.specs.declared.keep.KeepError.{KeepError}
+use Rattle.reg_tables.specs.declared.error.TableError.{TableError}
 use Rattle.reg_store.specs.declared.keep.Kept.{Kept}
-use Rattle.reg_store.specs.Keep.{fails, sent_of}
+use Rattle.reg_store.specs.Keep.{sent_of}
+use Rattle.reg_tables.specs.Private.Errors.{fails}
 use Rattle.reg_tables.specs.Private.Digests.{IsRowOf}
 use Rattle.reg_tables.specs.Quiet.{IsStill}
 use Rattle.reg_tables.proofs.QuietLaws.{clean_before}
@@ -10,7 +11,7 @@ use Rattle.reg_tables.specs.Register.{deposits_in}
 use Rattle.reg_tables.proofs.KeepLaws.{idle_at, keeps_quiet}
 use Rattle.reg_tables.proofs.MethodsLaws.{deposit_read_at}
 use Rattle.reg_tables.proofs.MemoryLemmas.{agrees_still}
-use Rattle.reg_tables.proofs.ReadsLemmas.{reads_still}
+use Rattle.reg_tables.proofs.ReadsLemmas.{found_of, reads_still}
 use Rattle.reg_tables.proofs.keep.SqlKeepKeep.deposit.Goals as goal
 
 pub read_deposit-found-requires : goal.read_deposit-found-requires
@@ -21,19 +22,20 @@ invariant_of-self-clause-idle g c = c.read_deposit-found.ensures.quiet.idle
 
 pub invariant_of-self-clause-kept : goal.invariant_of-self-clause-kept
 invariant_of-self-clause-kept g c works clean =
-    keeps_quiet (state g.S.Store c.args.self.now.connection) (state g.S.Store c.read_deposit-found.new.conn) (c.args.self.now.kept c.requires.working) c.read_deposit-found.ensures.quiet clean (sym c.has_store_error-self.ensures ∙ works)
+    keeps_quiet (state g.S.Store c.args.self.now.connection) (state g.S.Store c.read_deposit-found.new.conn) (c.args.self.now.kept c.requires.working) c.read_deposit-found.ensures.quiet clean (sym c.answer.ensures.failing ∙ works)
 
 pub invariant_of-self-clause-agrees : goal.invariant_of-self-clause-agrees
 invariant_of-self-clause-agrees g c works clean =
-    agrees_still (state g.S.Store c.args.self.now.connection) (state g.S.Store c.read_deposit-found.new.conn) c.args.self.now.memory c.args.self.now.dictionary (c.args.self.now.agrees c.requires.working) c.read_deposit-found.ensures.quiet clean (sym c.has_store_error-self.ensures ∙ works)
+    agrees_still (state g.S.Store c.args.self.now.connection) (state g.S.Store c.read_deposit-found.new.conn) c.args.self.now.memory c.args.self.now.dictionary (c.args.self.now.agrees c.requires.working) c.read_deposit-found.ensures.quiet clean (sym c.answer.ensures.failing ∙ works)
 
 pub returns-clause-leaves : goal.returns-clause-leaves
 returns-clause-leaves g c =
     let old = state g.S.Store c.args.self.now.connection in
     let new = state g.S.Store c.read_deposit-found.new.conn in
-    let well : fails c.read_deposit-found.result ≡ false = search (rules, c.in_ok-kept.was) in
+    let given : c.answer.result ≡ Ok c.in_ok-kept.kept = search (rules, c.in_ok-kept.was) in
+    let well = ap fails (found_of c.read_deposit-found.result c.in_ok-kept.kept (sym c.answer.ensures.answer ∙ given)) in
     let still = subst (IsStill old new) well c.read_deposit-found.ensures.quiet in
-    reads_still (λ k. state g.S.Store k.connection) (λ k. k.dictionary) 999999 (λ k. k.has_failed) _ _ (Ok (record { firm = c.in_ok-kept.kept.firm; project = c.in_ok-kept.kept.project; embargo = c.in_ok-kept.kept.embargo; bytes = c.in_ok-kept.kept.bytes; withdrawn = c.is_withdrawn.result })) still refl (c.has_store_error-self.ensures ∙ well) tt
+    reads_still (λ k. state g.S.Store k.connection) (λ k. k.dictionary) 999999 (λ k. k.has_failed) _ _ (Ok (record { firm = c.in_ok-kept.kept.firm; project = c.in_ok-kept.kept.project; embargo = c.in_ok-kept.kept.embargo; bytes = c.in_ok-kept.kept.bytes; withdrawn = c.is_withdrawn.result })) still refl (c.answer.ensures.failing ∙ well) tt
 
 pub returns-clause-read : goal.returns-clause-read
 returns-clause-read g c clean =
@@ -43,7 +45,8 @@ returns-clause-read g c clean =
     let first = clean_before old new c.read_deposit-found.ensures.quiet.survives clean in
     let its = c.requires.number first in
     let kept = c.in_ok-kept.kept in
-    let was : c.read_deposit-found.result ≡ Ok kept = search (rules, c.in_ok-kept.was) in
-    let row = subst (λ (r : Result Kept KeepError). IfOk r (λ k. IsRowOf old.now c.args.n (sent_of k))) was (c.read_deposit-found.ensures.found clean) in
+    let given : c.answer.result ≡ Ok kept = search (rules, c.in_ok-kept.was) in
+    let was = found_of c.read_deposit-found.result kept (sym c.answer.ensures.answer ∙ given) in
+    let row = subst (λ (r : Result Kept TableError). IfOk r (λ k. IsRowOf old.now c.args.n (sent_of k))) was (c.read_deposit-found.ensures.found clean) in
     deposit_read_at {s = old} c.args.n (Ok (record { firm = kept.firm; project = kept.project; embargo = kept.embargo; bytes = kept.bytes; withdrawn = c.is_withdrawn.result })) its.0 its.1 (keep.kept c.requires.working first)
     row (λ d at. c.is_withdrawn.ensures keep.dictionary (deposits_in old.committed.trees) (keep.agrees c.requires.working first) its.0 d at)

@@ -1,9 +1,9 @@
-use Rattle.std.proofs.Common.{◌≡◌, ℕ, arith, List, false, length, refl, sym, ap, subst, ◌∙◌}
+use Rattle.std.proofs.Common.{Err, ◌≡◌, ℕ, arith, List, false, length, refl, sym, ap, subst, ◌∙◌}
 use Rattle.sqlite.specs.Effect.{Database}
 use Rattle.sqlite.specs.State.{HasCleanDisk}
 use Rattle.sqlite.specs.Held.{state}
 use Rattle.reg_store.specs.Deposit.{Deposit, with_withdrawn}
-use Rattle.reg_store.specs.Keep.{is_store}
+use Rattle.reg_tables.specs.Private.Errors.{is_store, keep_error}
 use Rattle.reg_tables.specs.Private.Inserts.{AddsMark}
 use Rattle.reg_tables.proofs.KeepLaws.{HoldsNext, BecomesNext, counted_at, crash_at, keeps_same, mark_next, next_at}
 use Rattle.reg_tables.proofs.KeepLaws.{schema_at, settled_of, text_committed, whole_next}
@@ -11,6 +11,7 @@ use Rattle.reg_tables.proofs.MarksLaws.{length_marked}
 use Rattle.reg_tables.specs.Private.Memory.{Agrees}
 use Rattle.reg_tables.proofs.QuietLaws.{clean_before}
 use Rattle.reg_tables.specs.Register.{KeepsRegister, deposits_in, text_in}
+use Rattle.reg_tables.proofs.ReadsLemmas.{adds_as, error_fails}
 use Rattle.reg_tables.proofs.keep.SqlKeepKeep.withdraw.Given.{Over}
 use Rattle.reg_tables.proofs.keep.SqlKeepKeep.withdraw.Goals.{After-mark}
 use Rattle.reg_tables.proofs.keep.SqlKeepKeep.withdraw.Goals as goal
@@ -32,7 +33,7 @@ invariant_of-self-in-Err-clause-kept g c works clean =
     let old = state g.S.Store keep.connection in
     let new = state g.S.Store c.change_tables.new.conn in
     let first = clean_before old new c.change_tables.ensures.crash clean in
-    let bare : is_store c.in-Err.refused ≡ false = sym c.is_store_error-self.ensures ∙ works in
+    let bare : is_store c.in-Err.error ≡ false = sym c.answer.ensures.failing ∙ works in
     let was = keep.kept c.requires.working first in
     let undone = c.in-Err.ensures.undone clean bare in
     keeps_same {old = old} {new = new} was (c.in-Err.ensures.open clean bare) (undone.0 ∙ settled_of was) undone.1
@@ -42,7 +43,7 @@ invariant_of-self-in-Err-clause-agrees g c works clean =
     let keep = c.args.self.now in
     let old = state g.S.Store keep.connection in
     let first = clean_before old (state g.S.Store c.change_tables.new.conn) c.change_tables.ensures.crash clean in
-    let bare : is_store c.in-Err.refused ≡ false = sym c.is_store_error-self.ensures ∙ works in
+    let bare : is_store c.in-Err.error ≡ false = sym c.answer.ensures.failing ∙ works in
     subst (λ (db : Database). Agrees keep.memory keep.dictionary (deposits_in db.trees)) (sym (c.in-Err.ensures.undone clean bare).1) (keep.agrees c.requires.working first)
 
 -- ---- where the mark was set
@@ -111,14 +112,15 @@ returns-in-Err-clause-leaves g c =
     let next = with_withdrawn c.args.n (deposits_in old.committed.trees) in
     let before = λ (clean : HasCleanDisk new). clean_before old new c.change_tables.ensures.crash clean in
     let becomes = λ (clean : HasCleanDisk new). mark_next {old = old} {dictionary = keep.dictionary} {count = length keep.memory.known.items} c.args.n (c.requires.number (before clean)).0 (c.requires.number (before clean)).1 (c.requires.not_withdrawn (before clean)) in
-    record {
+    let same = error_fails c.in-Err.error in
+    adds_as _ _ _ (Err (keep_error c.in-Err.error)) c.answer.result c.answer.ensures.answer (record {
       sound = before;
       same_dictionary = refl;
       same_limit = refl;
-      failing = c.is_store_error-self.ensures;
+      failing = c.answer.ensures.failing ∙ sym same;
       added = λ clean. tt;
-      refused = λ clean well. ap (λ (db : Database). deposits_in db.trees) (c.in-Err.ensures.undone clean well).1;
-      same_text = λ clean well. ap (λ (db : Database). text_in db.trees) (c.in-Err.ensures.undone clean well).1;
+      refused = λ clean well. ap (λ (db : Database). deposits_in db.trees) (c.in-Err.ensures.undone clean (sym same ∙ well)).1;
+      same_text = λ clean well. ap (λ (db : Database). text_in db.trees) (c.in-Err.ensures.undone clean (sym same ∙ well)).1;
       crash = λ clean. crash_at {old = old} {new = new} (AddsMark c.args.n) next (keep.kept c.requires.working (before clean)) (becomes clean) mark_meta c.change_tables.ensures.crash clean;
       whole = λ clean. whole_next {old = old} {new = new} (AddsMark c.args.n) next (keep.kept c.requires.working (before clean)) (becomes clean) c.change_tables.ensures.crash clean;
-    }
+    })

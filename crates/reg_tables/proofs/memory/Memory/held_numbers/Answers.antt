@@ -6,8 +6,8 @@ use Rattle.reg_tables.proofs.Known.{bare_of}
 use Rattle.reg_tables.proofs.MemoryLemmas.{numbers_held}
 use Rattle.reg_tables.proofs.memory.Memory.held_numbers.Goals as goal
 
-pub returns-clause-numbers : goal.returns-clause-numbers
-returns-clause-numbers c = λ dictionary list agrees.
+pub returns : goal.returns
+returns c = λ dictionary list agrees.
     let known = c.args.self.now.known.items in
     let project = c.args.project.now in
     let found = c.loop-one.numbers.items in

@@ -1,8 +1,8 @@
 use Rattle.std.proofs.Common.{rules, ◌≡◌, refl, sym, ap}
 use Rattle.sqlite.specs.Held.{state}
 use Rattle.sqlite.proofs.StateLemmas.{survives_weaker}
-use Rattle.reg_store.specs.declared.keep.KeepError.TheVariants.{NoMemory}
-use Rattle.reg_store.specs.Keep.{is_store}
+use Rattle.reg_tables.specs.declared.error.TableError.TheVariants.{NoMemory}
+use Rattle.reg_tables.specs.Private.Errors.{is_store}
 use Rattle.reg_tables.proofs.CreatesLaws.{new_empty}
 use Rattle.reg_tables.specs.Tables.{no_schema}
 use Rattle.reg_tables.proofs.CreateLemmas.{making_left}
@@ -61,8 +61,8 @@ returns-in-Err-NoMemory-clause-left g c =
     let is : c.in-Err-NoMemory.field-0 ≡ NoMemory = search rules in
     survives_weaker (state g.S.Store c.args.conn.now) (state g.S.Store c.change_tables.new.conn) _ _ (λ _ _ none. absurd none) (c.in-Err-NoMemory.ensures.quiet (ap is_store is))
 
-pub returns-in-Err-clause-left : goal.returns-in-Err-clause-left
-returns-in-Err-clause-left g c =
+pub returns-in-Err-Store-clause-left : goal.returns-in-Err-Store-clause-left
+returns-in-Err-Store-clause-left g c =
     let blank : (state g.S.Store c.args.conn.now).now.schema ≡ no_schema = search rules in
     let made = making_left c.args.bytes.now (state g.S.Store c.args.conn.now) (state g.S.Store c.change_tables.new.conn) c.requires.short c.requires.reads blank c.change_tables.ensures.crash in
     survives_weaker (state g.S.Store c.args.conn.now) (state g.S.Store c.change_tables.new.conn) _ _ (λ _ _ left. (refl, left)) made

@@ -14,30 +14,30 @@ examine_file-requires-clause-rising g c =
     let same : c.steps.result.now ≡ file.graph.steps = search rules in
     subst (IsAscending IsBefore) (sym same) (graph_ascends file c.requires.clean.graph)
 
-pub returns-in-Ok-true-clause-tested : goal.returns-in-Ok-true-clause-tested
-returns-in-Ok-true-clause-tested g c clean =
+pub returns-then-branch-clause-tested : goal.returns-then-branch-clause-tested
+returns-then-branch-clause-tested g c clean =
     let file = c.args.file.now in
-    let is : c.in-Ok-true.field-0 ≡ true = search rules in
+    let is : c.in_ok-examine_file.field-0 ≡ true = search rules in
     let lines : c.deref-2.result.now ≡ kept_rows file.groups = search rules in
     let steps : c.steps.result.now ≡ file.graph.steps = search rules in
-    file_tests (state g.S.Store c.args.conn.now).now c.args.number c.deref-2.result.now (kept_rows file.groups) c.steps.result.now file.graph.steps is lines steps (c.in-Ok-true.ensures.tested clean)
+    file_tests (state g.S.Store c.args.conn.now).now c.args.number c.deref-2.result.now (kept_rows file.groups) c.steps.result.now file.graph.steps is lines steps (c.in_ok-examine_file.ensures.tested clean)
 
-pub returns-in-Ok-true-clause-quiet : goal.returns-in-Ok-true-clause-quiet
-returns-in-Ok-true-clause-quiet g c = c.in-Ok-true.ensures.quiet
+pub returns-then-branch-clause-quiet : goal.returns-then-branch-clause-quiet
+returns-then-branch-clause-quiet g c = c.in_ok-examine_file.ensures.quiet
 
-pub returns-in-Ok-false-clause-tested : goal.returns-in-Ok-false-clause-tested
-returns-in-Ok-false-clause-tested g c clean =
+pub returns-clause-tested : goal.returns-clause-tested
+returns-clause-tested g c clean =
     let file = c.args.file.now in
-    let is : c.in-Ok-false.field-0 ≡ false = search rules in
+    let is : c.in_ok-examine_file.field-0 ≡ false = search rules in
     let lines : c.deref-2.result.now ≡ kept_rows file.groups = search rules in
     let steps : c.steps.result.now ≡ file.graph.steps = search rules in
-    file_tests (state g.S.Store c.args.conn.now).now c.args.number c.deref-2.result.now (kept_rows file.groups) c.steps.result.now file.graph.steps is lines steps (c.in-Ok-false.ensures.tested clean)
+    file_tests (state g.S.Store c.args.conn.now).now c.args.number c.deref-2.result.now (kept_rows file.groups) c.steps.result.now file.graph.steps is lines steps (c.in_ok-examine_file.ensures.tested clean)
 
-pub returns-in-Ok-false-clause-quiet : goal.returns-in-Ok-false-clause-quiet
-returns-in-Ok-false-clause-quiet g c = c.in-Ok-false.ensures.quiet
+pub returns-clause-quiet : goal.returns-clause-quiet
+returns-clause-quiet g c = c.in_ok-examine_file.ensures.quiet
 
-pub returns-in_default-clause-quiet : goal.returns-in_default-clause-quiet
-returns-in_default-clause-quiet g c = quiet_none (state g.S.Store c.args.conn.now) _ c.requires.idle.idle
+pub returns-in_err-lines-clause-quiet : goal.returns-in_err-lines-clause-quiet
+returns-in_err-lines-clause-quiet g c = quiet_none (state g.S.Store c.args.conn.now) _ c.requires.idle.idle
 
-pub returns-in_default-of-clause-quiet : goal.returns-in_default-of-clause-quiet
-returns-in_default-of-clause-quiet g c = quiet_none (state g.S.Store c.args.conn.now) _ c.requires.idle.idle
+pub returns-in_err-known-clause-quiet : goal.returns-in_err-known-clause-quiet
+returns-in_err-known-clause-quiet g c = quiet_none (state g.S.Store c.args.conn.now) _ c.requires.idle.idle

@@ -10,6 +10,7 @@ use Rattle.reg_tables.specs.Whole.{IsWhole}
 use Rattle.reg_tables.proofs.ExamineLemmas.{tests_all, tests_false, tests_true, whole_more, whole_not}
 use Rattle.reg_tables.proofs.HeadsLemmas.{known_read}
 use Rattle.reg_tables.proofs.RepeatsLemmas.{below_more, held_more, none_below}
+use Rattle.reg_tables.proofs.QueryLemmas.{passed_quiet}
 use Rattle.reg_tables.proofs.open.deposits.examine_deposits.Goals as goal
 
 pub loop-at-init : goal.loop-at-init
@@ -36,9 +37,9 @@ loop-at-preserved g c =
     let mid = state g.S.Store c.loop-at.conn in
     let new = state g.S.Store c.examine_deposit.new.conn in
     let was = c.loop-at.invariant in
-    let one = c.in-Ok-true.ensures in
+    let one = c.in_ok-examine_deposit.ensures in
     let at = c.loop-at.at in
-    let is : c.in-Ok-true.field-0 ≡ true = search rules in
+    let is : c.in_ok-examine_deposit.field-0 ≡ true = search rules in
     let put = one.put (ap Ok is) in
     record {
       idle = idle_then mid new was.idle one.quiet;
@@ -58,19 +59,20 @@ loop-at-preserved g c =
           held_more old.now c.loop-at.digests c.examine_deposit.new.digests put.0.digest (at + 1) put.2 (λ d row. (its d row).1) (was.digested early));
     }
 
-pub returns-in-Ok-false-clause-tested : goal.returns-in-Ok-false-clause-tested
-returns-in-Ok-false-clause-tested g c clean =
+pub returns-then-not-branch-clause-tested : goal.returns-then-not-branch-clause-tested
+returns-then-not-branch-clause-tested g c clean =
     let mid = state g.S.Store c.loop-at.conn in
-    let one = c.in-Ok-false.ensures in
+    let one = c.in_ok-examine_deposit.ensures in
     let early = clean_before mid (state g.S.Store c.examine_deposit.new.conn) one.quiet.survives clean in
-    let is : c.in-Ok-false.field-0 ≡ false = search rules in
+    let is : c.in_ok-examine_deposit.field-0 ≡ false = search rules in
     whole_not (state g.S.Store c.args.conn.now).now mid.now c.args.dictionary.now c.loop-at.at c.args.count (c.loop-at.invariant.still.same early refl).0 (omega arith) (tests_false is (one.tested clean))
 
-pub returns-in-Ok-false-clause-quiet : goal.returns-in-Ok-false-clause-quiet
-returns-in-Ok-false-clause-quiet g c = quiet_then _ _ _ _ c.loop-at.invariant.still c.in-Ok-false.ensures.quiet
+pub returns-then-not-branch-clause-quiet : goal.returns-then-not-branch-clause-quiet
+returns-then-not-branch-clause-quiet g c = quiet_then _ _ _ _ c.loop-at.invariant.still c.in_ok-examine_deposit.ensures.quiet
 
-pub returns-in-Err-clause-quiet : goal.returns-in-Err-clause-quiet
-returns-in-Err-clause-quiet g c = quiet_then _ _ _ _ c.loop-at.invariant.still c.in-Err.ensures.quiet
+pub returns-in_err-examine_deposit-clause-quiet : goal.returns-in_err-examine_deposit-clause-quiet
+returns-in_err-examine_deposit-clause-quiet g c =
+    passed_quiet _ _ c.from_residual.result _ c.from_residual.ensures.1 (quiet_then _ _ _ _ c.loop-at.invariant.still c.in_err-examine_deposit.ensures.quiet)
 
 pub returns-clause-tested : goal.returns-clause-tested
 returns-clause-tested g c clean =

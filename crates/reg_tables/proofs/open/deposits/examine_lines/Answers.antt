@@ -10,12 +10,12 @@ use Rattle.reg_tables.proofs.open.deposits.examine_lines.Goals as goal
 pub take_shown-requires-clause-plain : goal.take_shown-requires-clause-plain
 take_shown-requires-clause-plain g c schema has = (lines_read schema has).plain
 
-pub returns-in-Ok-clause-tested : goal.returns-in-Ok-clause-tested
-returns-in-Ok-clause-tested g c clean =
+pub returns-clause-tested : goal.returns-clause-tested
+returns-clause-tested g c clean =
     let old = state g.S.Store c.args.conn.now in
     let new = state g.S.Store c.take_shown.new.conn in
     let first : HasCleanDisk old = omega (arith, c.take_shown.ensures.quiet.survives.clean) in
-    let shown = rw (c.params-to_sql.ensures) at (c.in-Ok.ensures.shown clean) in
+    let shown = rw (c.params-to_sql.ensures) at (c.in_ok-take_shown.ensures.shown clean) in
     let into = c.take_shown.new.into in
     let same : into.lines.now ≡ c.args.lines.now = search (rules, shown.2.0) in
     let compared = subst (λ all. Compares (placed_rows 0 all) into.at into.is shown.0) same shown.2.1 in

@@ -16,29 +16,26 @@ loop-number-preserved g c =
     let mid = state g.S.Store c.loop-number.conn in
     let new = state g.S.Store c.compare_deposit.new.conn in
     let was = c.loop-number.invariant in
-    let found = c.in-Ok-false.ensures in
-    let no : c.in-Ok-false.field-0 ≡ false = search rules in
+    let found = c.in_ok-compare_deposit.ensures in
+    let no : c.in_ok-compare_deposit.field-0 ≡ false = search rules in
     record {
       idle = idle_then mid new was.idle found.quiet;
       still = quiet_then old mid new false was.still found.quiet;
       none = λ clean.
           (let early = clean_before mid new found.quiet.survives clean in
-          no_more_by old.now mid.now c.args.firm.now c.args.project.now c.args.bytes.now c.args.numbers.now c.loop-number.number-index c.in-Ok-false.field-0 (was.still.same early refl).0 (search rules) (was.none early) (found.equal clean) no);
+          no_more_by old.now mid.now c.args.firm.now c.args.project.now c.args.bytes.now c.args.numbers.now c.loop-number.number-index c.in_ok-compare_deposit.field-0 (was.still.same early refl).0 (search rules) (was.none early) (found.equal clean) no);
     }
 
-pub returns-in-Ok-true-clause-equal : goal.returns-in-Ok-true-clause-equal
-returns-in-Ok-true-clause-equal g c clean =
+pub returns-then-branch-clause-equal : goal.returns-then-branch-clause-equal
+returns-then-branch-clause-equal g c clean =
     let mid = state g.S.Store c.loop-number.conn in
-    let found = c.in-Ok-true.ensures in
+    let found = c.in_ok-compare_deposit.ensures in
     let early = clean_before mid (state g.S.Store c.compare_deposit.new.conn) found.quiet.survives clean in
-    let yes : c.in-Ok-true.field-0 ≡ true = search rules in
-    equal_by (state g.S.Store c.args.conn.now).now mid.now c.args.firm.now c.args.project.now c.args.bytes.now _ c.in-Ok-true.field-0 (c.loop-number.invariant.still.same early refl).0 (found.equal clean) yes
+    let yes : c.in_ok-compare_deposit.field-0 ≡ true = search rules in
+    equal_by (state g.S.Store c.args.conn.now).now mid.now c.args.firm.now c.args.project.now c.args.bytes.now _ c.in_ok-compare_deposit.field-0 (c.loop-number.invariant.still.same early refl).0 (found.equal clean) yes
 
-pub returns-in-Ok-true-clause-quiet : goal.returns-in-Ok-true-clause-quiet
-returns-in-Ok-true-clause-quiet g c = quiet_then _ _ _ _ c.loop-number.invariant.still c.in-Ok-true.ensures.quiet
-
-pub returns-in-Err-clause-quiet : goal.returns-in-Err-clause-quiet
-returns-in-Err-clause-quiet g c = quiet_then _ _ _ _ c.loop-number.invariant.still c.in-Err.ensures.quiet
+pub returns-then-branch-clause-quiet : goal.returns-then-branch-clause-quiet
+returns-then-branch-clause-quiet g c = quiet_then _ _ _ _ c.loop-number.invariant.still c.in_ok-compare_deposit.ensures.quiet
 
 pub returns-clause-quiet : goal.returns-clause-quiet
 returns-clause-quiet g c = c.loop-number.invariant.still

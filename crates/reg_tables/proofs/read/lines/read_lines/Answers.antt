@@ -7,10 +7,10 @@ use Rattle.reg_tables.proofs.read.lines.read_lines.Goals as goal
 pub take_shown-requires-clause-plain : goal.take_shown-requires-clause-plain
 take_shown-requires-clause-plain g c schema has = (lines_text schema has).plain
 
-pub returns-in-Ok-clause-found : goal.returns-in-Ok-clause-found
-returns-in-Ok-clause-found g c clean =
-    lines_read (state g.S.Store c.args.conn.now) (state g.S.Store c.take_shown.new.conn) c.args.number c.take_shown.new.into.lines.items (tables_before c.requires.idle c.take_shown.ensures.quiet clean) (rw (c.params-to_sql.ensures) at (c.in-Ok.ensures.shown clean))
+pub returns-clause-found : goal.returns-clause-found
+returns-clause-found g c clean =
+    lines_read (state g.S.Store c.args.conn.now) (state g.S.Store c.take_shown.new.conn) c.args.number c.take_shown.new.into.lines.items (tables_before c.requires.idle c.take_shown.ensures.quiet clean) (rw (c.params-to_sql.ensures) at (c.in_ok-take_shown.ensures.shown clean))
 
-pub returns-in-Ok-clause-held : goal.returns-in-Ok-clause-held
-returns-in-Ok-clause-held g c clean =
-    lines_held (state g.S.Store c.args.conn.now) (state g.S.Store c.take_shown.new.conn) c.args.number c.take_shown.new.into.lines.items (tables_before c.requires.idle c.take_shown.ensures.quiet clean) (rw (c.params-to_sql.ensures) at (c.in-Ok.ensures.shown clean))
+pub returns-clause-held : goal.returns-clause-held
+returns-clause-held g c clean =
+    lines_held (state g.S.Store c.args.conn.now) (state g.S.Store c.take_shown.new.conn) c.args.number c.take_shown.new.into.lines.items (tables_before c.requires.idle c.take_shown.ensures.quiet clean) (rw (c.params-to_sql.ensures) at (c.in_ok-take_shown.ensures.shown clean))

@@ -2,8 +2,8 @@ use Rattle.std.proofs.Common.{rules, ◌≡◌, ◌++◌, ◌∷◌, []}
 use Rattle.reg_tables.proofs.ReadersLemmas.{line_more}
 use Rattle.reg_tables.proofs.read.rows.KeptLinesGather.take.Goals as goal
 
-pub returns-clause-taken : goal.returns-clause-taken
-returns-clause-taken c first rows before =
+pub returns : goal.returns
+returns c first rows before =
     let old = c.args.self.now.lines.items in
     let line = c.in_ok-line.line in
     let pushed : c.push.new.self.items ≡ old ++ line ∷ [] = search rules in
