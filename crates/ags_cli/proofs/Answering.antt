@@ -1,7 +1,7 @@
 -- From what is reported to the answer of a run.
 use Rattle.std.proofs.Common.{ap, length, ◌≡◌, ◌≤◌, ◌↔◌, ◌||◌, ℕ, Bool, true, false, IsTrue, inl, inr, ◌⊎◌, [], List, Option, None, Some, Ok, Err, IfSome, refl, sym, subst, ◌∙◌, arith, rules}
-use Rattle.ags_cli.specs.declared.fault.Fault.{Fault}
-use Rattle.ags_cli.specs.declared.fault.Fault.TheVariants.{TooLarge, NoMemory, Stream}
+use Rattle.ags_cli.specs.declared.error.Fault.{Fault}
+use Rattle.ags_cli.specs.declared.error.Fault.TheVariants.{TooLarge, NoMemory, Stream}
 use Rattle.ags_rows.specs.declared.TheConstants.{LIMIT}
 use Rattle.ags_rows.specs.declared.finding.Finding.{Finding}
 use Rattle.ags_cli.specs.declared.report.Report.{Report}

@@ -3,7 +3,7 @@ use Rattle.std.proofs.Common.{◌≡◌, ℕ, ◌+◌, ◌≤◌, ◌<◌, ◌++
 use Rattle.std.specs.Io.KnownBytes.{Appends, Consumes, IsAtEnd, Keeps}
 use Rattle.std.proofs.lemmas.Grind.{common_steps}
 use Rattle.std.specs.Global.{Global}
-use Rattle.ags_cli.specs.declared.fault.Fault.{Fault}
+use Rattle.ags_cli.specs.declared.error.Fault.{Fault}
 use Rattle.ags_cli.specs.Faults.{is_stream, is_stream_fault}
 use Rattle.ags_cli.specs.Reading.{Appended, IsOfReading, ReadsFile, TakesAtMost}
 

@@ -8,8 +8,8 @@ use Rattle.ags_dict.specs.Entries.{Entries}
 use Rattle.ags_check.specs.Findings.{Findings}
 use Rattle.ags_rows.specs.declared.TheConstants.{LIMIT}
 use Rattle.ags_rows.specs.declared.finding.Finding.{Finding}
-use Rattle.ags_cli.specs.declared.fault.Fault.{Fault}
-use Rattle.ags_cli.specs.declared.fault.Fault.TheVariants.{TooLarge, NoMemory, Stream}
+use Rattle.ags_cli.specs.declared.error.Fault.{Fault}
+use Rattle.ags_cli.specs.declared.error.Fault.TheVariants.{TooLarge, NoMemory, Stream}
 use Rattle.ags_cli.specs.declared.report.Report.{Report}
 use Rattle.ags_cli.specs.declared.watched.Watched.{Watched}
 use Rattle.ags_cli.specs.Faults.{fault_text, fault_status}

@@ -9,7 +9,7 @@ use Rattle.ags_cli.specs.Answers.{AnswersOnInput}
 use Rattle.ags_cli.specs.Faults.{fault_status}
 use Rattle.ags_cli.specs.Reading.{TakesAtMost}
 use Rattle.ags_cli.specs.Streams.{has_failed, inner_of}
-use Rattle.ags_cli.specs.declared.fault.Fault.TheVariants.{Stream}
+use Rattle.ags_cli.specs.declared.error.Fault.TheVariants.{Stream}
 use Rattle.ags_cli.specs.declared.watched.Watched.{Watched}
 
 module _ {R W E : Type 0} (reader : ReadGhosts R) (writer : WriteGhosts W) (errors : WriteGhosts E) where

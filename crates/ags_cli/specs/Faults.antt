@@ -4,12 +4,12 @@ use Rattle.std.specs.Io.KnownBytes.{Appends}
 use Rattle.std.specs.declared.io.Write.{Ghosts as WriteGhosts}
 use Rattle.ags_cli.specs.Streams.{has_failed, inner_of}
 use Rattle.ags_cli.specs.Writing.{TakesPart}
-use Rattle.ags_cli.specs.declared.fault.Fault.{Fault}
+use Rattle.ags_cli.specs.declared.error.Fault.{Fault}
 use Rattle.ags_cli.specs.declared.watched.Watched.{Watched}
-use Rattle.ags_cli.specs.declared.fault.Fault.TheVariants.{WordsRefused, PolicyRefused, CallersRefused, TokenRefused}
-use Rattle.ags_cli.specs.declared.fault.Fault.TheVariants.{ProjectRefused, DayRefused, GroupsRefused, NumberRefused}
-use Rattle.ags_cli.specs.declared.fault.Fault.TheVariants.{DictionaryRefused, TooLarge, StoreNotEmpty, NotRegister}
-use Rattle.ags_cli.specs.declared.fault.Fault.TheVariants.{StoreFailed, NoMemory, Stream}
+use Rattle.ags_cli.specs.declared.error.Fault.TheVariants.{WordsRefused, PolicyRefused, CallersRefused, TokenRefused}
+use Rattle.ags_cli.specs.declared.error.Fault.TheVariants.{ProjectRefused, DayRefused, GroupsRefused, NumberRefused}
+use Rattle.ags_cli.specs.declared.error.Fault.TheVariants.{DictionaryRefused, TooLarge, StoreNotEmpty, NotRegister}
+use Rattle.ags_cli.specs.declared.error.Fault.TheVariants.{StoreFailed, NoMemory, Stream}
 
 -- the text; nothing is said of a stream that failed
 abbrev pub fault_text : Fault → List ℕ

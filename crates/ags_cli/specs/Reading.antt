@@ -3,8 +3,8 @@ use Rattle.std.specs.Prelude.{◌≡◌, ℕ, ◌<◌, ◌≤◌, ◌⊎◌, ◌
 use Rattle.std.specs.Global.{Global}
 use Rattle.std.specs.Io.KnownBytes.{Consumes, IsAtEnd}
 use Rattle.ags_rows.specs.declared.TheConstants.{LIMIT}
-use Rattle.ags_cli.specs.declared.fault.Fault.{Fault}
-use Rattle.ags_cli.specs.declared.fault.Fault.TheVariants.{TooLarge, NoMemory, Stream}
+use Rattle.ags_cli.specs.declared.error.Fault.{Fault}
+use Rattle.ags_cli.specs.declared.error.Fault.TheVariants.{TooLarge, NoMemory, Stream}
 
 -- the bytes that were taken are the first ones, and no more than `most`
 pub record TakesAtMost (most : ℕ) (old new : Option (List ℕ)) : Type 0 where

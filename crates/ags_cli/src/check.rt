@@ -8,7 +8,7 @@ ghost use Rattle.ags_cli.specs.Faults.{is_stream_fault};
 ghost use Rattle.ags_cli.specs.Reading.{TakesAtMost};
 ghost use Rattle.ags_cli.specs.Streams.{HaveNotFailed};
 
-use crate::fault::Fault;
+use crate::error::Fault;
 use crate::input::read_file;
 use crate::report::{Report, findings_report};
 use crate::watched::Watched;

@@ -4,7 +4,7 @@ ghost use Rattle.std.specs.Prelude.{◌≡◌, ◌||◌, ◌+◌, ◌<◌, ◌�
 ghost use Rattle.ags_cli.specs.Faults.{is_stream_fault};
 ghost use Rattle.ags_cli.specs.Reading.{AppendedIfOk, IsOfReading, ReadsFile, TakesAtMost};
 
-use crate::fault::Fault;
+use crate::error::Fault;
 use crate::watched::Watched;
 use ags_rows::LIMIT;
 use std::alloc::{AllocError, Global};

@@ -6,14 +6,14 @@
 #![tactic(auto)]
 
 mod check;
-mod fault;
+mod error;
 mod input;
 mod report;
 mod watched;
 mod words;
 
 pub use check::{check_stream, run_without_words};
-pub use fault::{Fault, tell, tell_line};
+pub use error::{Fault, tell, tell_line};
 pub use report::{Report, findings_report};
 pub use watched::{StreamFailed, Watched};
 pub use words::words_given;

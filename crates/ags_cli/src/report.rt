@@ -5,7 +5,7 @@ ghost use Rattle.ags_rows.specs.FindingLists.{finding_of};
 ghost use Rattle.ags_cli.specs.Faults.{TellsTo};
 ghost use Rattle.ags_cli.specs.Report.{report_of, report_line, shown_byte, shown_subject};
 
-use crate::fault::tell;
+use crate::error::tell;
 use crate::watched::Watched;
 use ags_rows::{FindingList, FindingRef};
 use ags_text::{Bytes, Sequence};

@@ -1,6 +1,6 @@
 //! The arguments that a program is started with.
 
-use crate::fault::Fault;
+use crate::error::Fault;
 use std::env;
 use std::io::ErrorKind;
 

@@ -10,13 +10,13 @@ use Rattle.reg_desk.specs.declared.desk.Desk.{Desk}
 use Rattle.reg_http.specs.Connections.{ServesConnection}
 use Rattle.reg_http.specs.Serving.{Exchange, ServesOne, is_read}
 use Rattle.reg_http.specs.Serving as ways
-use Rattle.reg_http.specs.declared.serve.Served.{Served}
-use Rattle.reg_http.specs.declared.serve.IoFault.{IoFault}
-use Rattle.reg_http.specs.declared.serve.IoFault.TheVariants as fault
+use Rattle.reg_http.specs.declared.connection.Served.{Served}
+use Rattle.reg_http.specs.declared.error.IoFault.{IoFault}
+use Rattle.reg_http.specs.declared.error.IoFault.TheVariants as fault
 use Rattle.reg_http.specs.declared.tally.Tally.{Tally}
 use Rattle.reg_app.specs.Serving.{Applies, AsksOnce, GoesOn, Looks, Period, Serves, period_after, starts, looked, answered}
-use Rattle.reg_app.specs.declared.reload.Look.{Look}
-use Rattle.reg_app.specs.declared.reload.Look.TheVariants.{Same, Anew, Refused}
+use Rattle.reg_app.specs.declared.reload.Renewal.{Renewal}
+use Rattle.reg_app.specs.declared.reload.Renewal.TheVariants.{Same, Anew, Refused}
 
 module _ {K : Type 0} (keep : KeepGhosts K) where
   -- a way of a connection has one request at most
@@ -53,13 +53,13 @@ module _ {K : Type 0} (keep : KeepGhosts K) where
   one_more old mid new requests answers asked answer none by = absurd none
 
   -- a look begins a period, or changes nothing
-  after_look : {L : Type 0} (look : Look L) (period : Period keep) (old new : Desk K keep) → AreAnsweredBy keep period.begin period.requests period.answers old
+  after_look : {L : Type 0} (look : Renewal L) (period : Period keep) (old new : Desk K keep) → AreAnsweredBy keep period.begin period.requests period.answers old
       → Applies look old new → AreAnsweredBy keep (period_after look period new).begin (period_after look period new).requests (period_after look period new).answers new
   after_look (Anew rights log) period old new before applies = refl
   after_look Same period old new before same = subst (λ (d : Desk K keep). AreAnsweredBy keep period.begin period.requests period.answers d) (sym same) before
   after_look (Refused failure) period old new before same = subst (λ (d : Desk K keep). AreAnsweredBy keep period.begin period.requests period.answers d) (sym same) before
 
-module _ {K L R : Type 0} (keep : KeepGhosts K) (looks : R → Look L → R → Type 0) (first : Desk K keep) (known : List Credential) (source : R) where
+module _ {K L R : Type 0} (keep : KeepGhosts K) (looks : R → Renewal L → R → Type 0) (first : Desk K keep) (known : List Credential) (source : R) where
   -- the requests of a period were answered one after the other
   pub period_answered : (period : Period keep) (desk : Desk K keep) (callers : List Credential) (reload : R)
       → Serves looks first known source period desk callers reload → AreAnsweredBy keep period.begin period.requests period.answers desk
@@ -78,7 +78,7 @@ module _ {K L R : Type 0} (keep : KeepGhosts K) (looks : R → Look L → R → 
   asked_on period old new callers reload before (inr (day, bytes, asked, answer, reads, by)) =
       (_, answered period old new callers reload day bytes asked answer before reads by)
 
-module _ {K L R : Type 0} (keep : KeepGhosts K) (looks : R → Look L → R → Type 0) where
+module _ {K L R : Type 0} (keep : KeepGhosts K) (looks : R → Renewal L → R → Type 0) where
   -- so do a look and the connection after it
   pub look_on : (old mid new : Desk K keep) (callers then now : List Credential) (from to : R)
       → Looks looks from to old mid callers then → AsksOnce then mid new → now ≡ then → GoesOn looks from to old new callers now

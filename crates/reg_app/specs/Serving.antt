@@ -9,11 +9,11 @@ use Rattle.reg_desk.specs.declared.answer.Answer.{Answer}
 use Rattle.reg_desk.specs.declared.desk.Desk.{Desk}
 use Rattle.reg_cli.specs.declared.files.Rights.{Rights}
 use Rattle.reg_http.specs.Reading.{ReadAs, request}
-use Rattle.reg_app.specs.declared.reload.Look.{Look}
-use Rattle.reg_app.specs.declared.reload.Look.TheVariants.{Anew}
+use Rattle.reg_app.specs.declared.reload.Renewal.{Renewal}
+use Rattle.reg_app.specs.declared.reload.Renewal.TheVariants.{Anew}
 
 -- the callers who are known after a look
-abbrev pub callers_after : {L : Type 0} → Look L → List Credential → List Credential
+abbrev pub callers_after : {L : Type 0} → Renewal L → List Credential → List Credential
 callers_after (Anew rights log) callers = rights.callers
 callers_after look callers = callers
 
@@ -31,14 +31,14 @@ module _ {K : Type 0} {keep : KeepGhosts K} where
     pub works : desk.failed ≡ false
 
   -- what a look does to a desk: nothing, unless other rights are read
-  abbrev pub Applies : {L : Type 0} → Look L → Desk K keep → Desk K keep → Type 0
+  abbrev pub Applies : {L : Type 0} → Renewal L → Desk K keep → Desk K keep → Type 0
   Applies (Anew rights log) old new = IsReloaded old rights.policy new
   Applies look old new = new ≡ old
 
   -- a look was made, and it applies: what looks, the desk and the callers who are known, before and after it
-  abbrev pub Looks : {L R : Type 0} → (R → Look L → R → Type 0) → R → R → Desk K keep → Desk K keep
+  abbrev pub Looks : {L R : Type 0} → (R → Renewal L → R → Type 0) → R → R → Desk K keep → Desk K keep
       → List Credential → List Credential → Type 0
-  Looks {L} looks from to old new callers known = (look : Look L) × looks from look to × Applies look old new
+  Looks {L} looks from to old new callers known = (look : Renewal L) × looks from look to × Applies look old new
       × (known ≡ callers_after look callers)
 
   -- the desk was asked nothing, or one request, which some bytes are read as where these callers are known
@@ -66,17 +66,18 @@ module _ {K : Type 0} {keep : KeepGhosts K} where
   }
 
   -- the period after a look: a new one, if other rights were read
-  abbrev pub period_after : {L : Type 0} → Look L → Period keep → Desk K keep → Period keep
+  abbrev pub period_after : {L : Type 0} → Renewal L → Period keep → Desk K keep → Period keep
   period_after (Anew rights log) period desk = begins desk
   period_after look period desk = period
 
-module _ {K L R : Type 0} {keep : KeepGhosts K} (looks : R → Look L → R → Type 0) where
+module _ {K L R : Type 0} {keep : KeepGhosts K} (looks : R → Renewal L → R → Type 0) where
   -- From a desk, the callers who are known and what looks: the period, and these three, after looks and answers, one
   -- after the other.
   pub data Serves (first : Desk K keep) (known : List Credential) (source : R)
       : Period keep → Desk K keep → List Credential → R → Type 0 where
     starts : Serves first known source (begins first) first known source
-    looked : (period : Period keep) (desk next : Desk K keep) (callers : List Credential) (from to : R) (look : Look L)
+    looked : (period : Period keep) (desk next : Desk K keep) (callers : List Credential) (from to : R)
+        (look : Renewal L)
         → Serves first known source period desk callers from → looks from look to → Applies look desk next
         → Serves first known source (period_after look period next) next (callers_after look callers) to
     answered : (period : Period keep) (desk next : Desk K keep) (callers : List Credential) (reload : R)
@@ -99,13 +100,13 @@ module _ {K L R : Type 0} {keep : KeepGhosts K} (looks : R → Look L → R → 
 
 -- Connections were served from this store on, at first by a desk under these rights that had not failed, and what is
 -- kept is its store at the end.
-abbrev pub ServesFrom : {K L R : Type 0} → KeepGhosts K → (R → Look L → R → Type 0) → R → R → K → Rights → K → Type 0
+abbrev pub ServesFrom : {K L R : Type 0} → KeepGhosts K → (R → Renewal L → R → Type 0) → R → R → K → Rights → K → Type 0
 ServesFrom {K} {L} {R} keep looks source reload store rights kept = (first : Desk K keep)
     × IsFirst store rights.policy first × ServesOn looks source reload first rights.callers kept
 
 -- What is answered between two reloads, or since the last one, is a run of the reference model under the policy of the
 -- desk at its begin, and each receipt and each answered withdrawal in it survives a crash.
-abbrev pub PeriodsAreRuns : {K L R : Type 0} → KeepGhosts K → (R → Look L → R → Type 0) → Type 0
+abbrev pub PeriodsAreRuns : {K L R : Type 0} → KeepGhosts K → (R → Renewal L → R → Type 0) → Type 0
 PeriodsAreRuns {K} {L} {R} keep looks = (first desk : Desk K keep) (known callers : List Credential) (source reload : R)
     (period : Period keep) → Serves looks first known source period desk callers reload
     → AreOfModel keep period.begin period.requests period.answers desk

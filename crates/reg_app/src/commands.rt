@@ -5,13 +5,13 @@ ghost use Rattle.ags_cli.specs.Checking.{ChecksInput};
 ghost use Rattle.ags_cli.specs.Streams.{HaveNotFailed, has_failed};
 
 use crate::progress::ProgressLines;
-use crate::serving::serve_register;
+use crate::server::serve_register;
 use crate::stores::{Registers, make_private, migrate_register, open_register};
-use crate::verify::verify;
+use crate::verification::verify;
 use crate::version::print_version;
 use ags_cli::{Watched, run_without_words, tell};
 use reg_cli::{
-    Action, Asker, Failure, Rights, Words, ask_of, check_given, dictionary_in, read_path,
+    Action, Asker, Failure, Rights, Words, ask_given, check_given, dictionary_in, read_path,
     read_rights, read_token, read_words, session_of,
 };
 use reg_desk::Desk;
@@ -149,7 +149,7 @@ fn ask_register<'w, G: Registers, W: Write, E: Write>(
     } = read_rights(rt, alloc, asker.policy, asker.callers)?;
     let token = read_token(rt, alloc, asker.token)?;
     let session = session_of(alloc, &callers, &token, asker, machine.today)?;
-    let ask = ask_of(action, session.day)?;
+    let ask = ask_given(action, session.day)?;
     let bytes = match action.file {
         Some(path) => read_path(rt, alloc, path)?,
         None => Vec::new(alloc),

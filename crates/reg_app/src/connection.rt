@@ -6,8 +6,8 @@ ghost use Rattle.reg_app.specs.Serving.{AsksOnce};
 use crate::listener::Stream;
 use crate::moment::Moment;
 use crate::record::Record;
-use crate::serving::{Running, Serving};
-use crate::timed::{Meter, Received, Replied, Sent, end_of};
+use crate::server::{Running, Server};
+use crate::sides::{Meter, PeerInput, Received, Replied, end_of};
 use ags_cli::Fault;
 use ags_rows::LIMIT;
 use reg_desk::Desk;
@@ -21,34 +21,21 @@ use std::time::{Clock, Duration};
 
 /// Serves a connection, if it was accepted, on the day of its moment where no other is given.
 pub(crate) fn serve_accepted<K: Keep, C: Clock, L: Write + Drop>(
-    alloc: Global,
-    clock: &C,
+    server: &Server<'_, C>,
     accepted: &io::Result<Stream>,
     moment: Option<Moment>,
-    serving: &Serving,
     running: &mut Running<K, L>,
 ) -> Outcome
     ensures asked { AsksOnce running.old.callers running.old.desk running.new.desk }
     ensures callers { running.new.callers ≡ running.old.callers }
 {
     let meter = Meter::default();
-    let mut record = Record::new(clock, &meter, moment, running.log.as_mut());
-    let day = serving.day.or(record.day());
+    let mut record = Record::new(server.clock, &meter, moment, running.log.as_mut());
+    let day = server.serving.day.or(record.day());
     let mut status = None;
     if let (Ok(stream), Some(day)) = (accepted, day) {
         let (callers, desk) = (&running.callers, &mut running.desk);
-        let patience = serving.patience;
-        let served = serve_stream(
-            alloc,
-            clock,
-            stream,
-            day,
-            patience,
-            callers,
-            desk,
-            &mut record,
-            &meter,
-        );
+        let served = serve_stream(server, stream, day, callers, desk, &mut record);
         status = served.ok().flatten();
     }
     record.end(status);
@@ -73,24 +60,22 @@ pub(crate) struct Outcome {
 /// Reads a request within a time, and writes the reply within the same time again: the status of the reply, if it was
 /// written.
 fn serve_stream<K: Keep, C: Clock, L: Write + Drop>(
-    alloc: Global,
-    clock: &C,
+    server: &Server<'_, C>,
     stream: &Stream,
     day: Day,
-    patience: Duration,
     callers: &Callers,
     desk: &mut Desk<K>,
     record: &mut Record<'_, '_, '_, C, L>,
-    meter: &Meter,
 ) -> io::Result<Option<u16>>
     ensures { AsksOnce callers.now desk.old desk.new }
 {
+    let (clock, patience, meter) = (server.clock, server.serving.patience, record.meter);
     let end = end_of(clock, patience)?;
-    let sent = Sent { clock, stream, end };
-    let mut received = Received { sent, meter };
+    let input = PeerInput { clock, stream, end };
+    let mut received = Received { input, meter };
     let mut replied = Replied::within(patience, clock, stream, meter);
     let served = serve_noted(
-        alloc,
+        server.alloc,
         desk,
         callers,
         day,
@@ -106,7 +91,7 @@ fn serve_stream<K: Keep, C: Clock, L: Write + Drop>(
 pub(crate) fn drain_peer<C: Clock>(clock: &C, stream: &Stream) -> io::Result<()> {
     stream.end()?;
     let end = end_of(clock, Duration::from_secs(DRAINING))?;
-    let rest = Sent { clock, stream, end };
+    let rest = PeerInput { clock, stream, end };
     io::copy(&mut rest.take(MOST_DRAINED), &mut io::sink())?;
     Ok(())
 }

@@ -2,7 +2,7 @@
 
 use crate::moment::Moment;
 use ags_cli::{Fault, Watched};
-use reg_cli::Digests;
+use reg_cli::RightsDigests;
 use reg_http::Head;
 use reg_policy::Day;
 use std::alloc::{AllocError, Global};
@@ -35,7 +35,7 @@ pub struct Log<W> {
 
 /// What a line says of a connection besides its front and its groups. What is not known is `-`.
 #[derive(Clone, Copy, Default)]
-pub(crate) struct Facts {
+pub(crate) struct LineFacts {
     /// When it was accepted.
     pub(crate) moment: Option<Moment>,
     /// The status of the reply; none where there is no reply.
@@ -107,7 +107,7 @@ impl<W: Write + Drop> Log<W> {
     }
 
     /// Appends the line of a connection, and has it passed on.
-    pub(crate) fn append(&mut self, facts: &Facts) -> Result<(), Fault> {
+    pub(crate) fn append(&mut self, facts: &LineFacts) -> Result<(), Fault> {
         self.begin_line(facts.moment)?;
         push_part(&mut self.line, &self.front, " - - - -")?;
         match facts.status {
@@ -129,7 +129,7 @@ impl<W: Write + Drop> Log<W> {
         moment: Option<Moment>,
         event: &str,
         version: &str,
-        digests: &Digests,
+        digests: &RightsDigests,
     ) -> Result<(), Fault> {
         self.begin_line(moment)?;
         write!(self.line, " * {event} {version} policy ")?;

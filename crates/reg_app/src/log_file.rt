@@ -81,7 +81,7 @@ fn latest_day(lines: &[u8], is_whole: bool) -> Option<Day> {
     let mut is_line = is_whole;
     for line in lines.split(|byte| *byte == b'\n') {
         if is_line {
-            latest = latest.max(day_of(line));
+            latest = latest.max(line_day(line));
         }
         is_line = true;
     }
@@ -89,7 +89,7 @@ fn latest_day(lines: &[u8], is_whole: bool) -> Option<Day> {
 }
 
 /// The day by which a line of a log begins, if it begins by one.
-fn day_of(line: &[u8]) -> Option<Day> {
+fn line_day(line: &[u8]) -> Option<Day> {
     if line.get(10) != Some(&b'T') {
         return None;
     }

@@ -1,11 +1,11 @@
 //! What is noted of a connection while it is served, and its line of the log.
 
-use crate::log::{Facts, Log};
+use crate::log::{LineFacts, Log};
 use crate::moment::Moment;
-use crate::timed::Meter;
+use crate::sides::Meter;
 use ags_cli::Fault;
 use reg_desk::{Answer, Request};
-use reg_http::{Head, Notes};
+use reg_http::{ConnectionNotes, Head};
 use reg_policy::Day;
 use sha2::{Digest, Sha256};
 use std::io::Write;
@@ -15,10 +15,10 @@ use std::time::{Clock, Instant};
 #[derive(Drop)]
 pub(crate) struct Record<'c, 'm, 'l, C, L> {
     clock: &'c C,
-    meter: &'m Meter,
+    pub(crate) meter: &'m Meter,
     begun: Option<Instant>,
     log: Option<&'l mut Log<L>>,
-    facts: Facts,
+    facts: LineFacts,
     is_written: bool,
     /// Whether the answer is that the store failed.
     pub(crate) is_store_failed: bool,
@@ -43,9 +43,9 @@ impl<'c, 'm, 'l, C: Clock, L: Write + Drop> Record<'c, 'm, 'l, C, L> {
             meter,
             begun: Instant::now(clock).ok(),
             log,
-            facts: Facts {
+            facts: LineFacts {
                 moment,
-                ..Facts::default()
+                ..LineFacts::default()
             },
             is_written: false,
             is_store_failed: false,
@@ -99,7 +99,7 @@ impl<'c, 'm, 'l, C: Clock, L: Write + Drop> Record<'c, 'm, 'l, C, L> {
     }
 }
 
-impl<C: Clock, L: Write + Drop> Notes for Record<'_, '_, '_, C, L> {
+impl<C: Clock, L: Write + Drop> ConnectionNotes for Record<'_, '_, '_, C, L> {
     fn head(&mut self, head: &Head<'_>) {
         self.facts.token = head.caller.map(|(_caller, token)| shown_of(token));
         if let Some(log) = &mut self.log {

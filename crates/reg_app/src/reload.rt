@@ -10,19 +10,19 @@ use std::os::unix::fs::MetadataExt;
 
 /// Looks whether rights and log are to be read anew.
 pub trait Reload<'w, L> {
-    ghost use Rattle.reg_app.specs.declared.reload.Look.{Look};
+    ghost use Rattle.reg_app.specs.declared.reload.Renewal.{Renewal};
 
     /// What a look may find, and what it leaves: anything, unless a type says more.
-    ghost looks: { Self → Look L → Self → Type 0 } = { λ _ _ _. Unit {0} };
+    ghost looks: { Self → Renewal L → Self → Type 0 } = { λ _ _ _. Unit {0} };
 
     /// Looks once, before a connection is served.
-    fn look(&mut self, alloc: Global) -> Look<'w, L>
+    fn look(&mut self, alloc: Global) -> Renewal<'w, L>
         ensures { looks self.old result self.new };
 }
 
 /// What a look finds.
 #[derive(Drop)]
-pub enum Look<'w, L> {
+pub enum Renewal<'w, L> {
     /// Nothing is to be read anew.
     Same,
     /// These apply from now on.
@@ -34,28 +34,28 @@ pub enum Look<'w, L> {
 /// A file by whose change an administrator says that policy, callers and log are to be read anew. It is a sign of its
 /// own, since a policy that is written by half can be a whole one that permits more.
 #[derive(Drop)]
-pub(crate) struct Sign<'r, 'w> {
+pub(crate) struct ReloadFile<'r, 'w> {
     rt: &'r HostRuntime,
     service: Service<'w>,
-    seen: Option<Mark>,
+    seen: Option<FileMark>,
 }
 
 /// By what a file is another one, or changed.
 #[derive(Clone, Copy, PartialEq, Eq)]
-struct Mark {
+struct FileMark {
     device: u64,
     file: u64,
     seconds: i64,
     nanoseconds: i64,
 }
 
-impl<'r, 'w> Sign<'r, 'w> {
+impl<'r, 'w> ReloadFile<'r, 'w> {
     /// As it is now.
-    pub(crate) fn new(rt: &'r HostRuntime, service: &Service<'w>) -> Sign<'r, 'w> {
-        Sign {
+    pub(crate) fn new(rt: &'r HostRuntime, service: &Service<'w>) -> ReloadFile<'r, 'w> {
+        ReloadFile {
             rt,
             service: *service,
-            seen: service.reload.and_then(|path| mark_of(rt, path)),
+            seen: service.reload.and_then(|path| file_mark(rt, path)),
         }
     }
 
@@ -64,7 +64,7 @@ impl<'r, 'w> Sign<'r, 'w> {
         let Some(path) = self.service.reload else {
             return false;
         };
-        let Some(mark) = mark_of(self.rt, path) else {
+        let Some(mark) = file_mark(self.rt, path) else {
             return false;
         };
         let is_new = self.seen != Some(mark);
@@ -73,14 +73,14 @@ impl<'r, 'w> Sign<'r, 'w> {
     }
 }
 
-impl<'w> Reload<'w, File> for Sign<'_, 'w> {
-    fn look(&mut self, alloc: Global) -> Look<'w, File> {
+impl<'w> Reload<'w, File> for ReloadFile<'_, 'w> {
+    fn look(&mut self, alloc: Global) -> Renewal<'w, File> {
         if !self.is_new() {
-            return Look::Same;
+            return Renewal::Same;
         }
         match read_anew(self.rt, alloc, &self.service) {
-            Ok((rights, log)) => Look::Anew(rights, log),
-            Err(failure) => Look::Refused(failure),
+            Ok((rights, log)) => Renewal::Anew(rights, log),
+            Err(failure) => Renewal::Refused(failure),
         }
     }
 }
@@ -96,9 +96,9 @@ fn read_anew<'w>(
 }
 
 /// The mark of the file at a path, if it is there.
-fn mark_of(rt: &HostRuntime, path: &str) -> Option<Mark> {
+fn file_mark(rt: &HostRuntime, path: &str) -> Option<FileMark> {
     let found = fs::metadata(rt, path).ok()?;
-    Some(Mark {
+    Some(FileMark {
         device: found.dev(),
         file: found.ino(),
         seconds: found.ctime(),

@@ -9,9 +9,9 @@ use Rattle.reg_desk.specs.declared.desk.Desk.{Desk}
 use Rattle.ags_cli.specs.Faults.{TellsTo}
 use Rattle.reg_cli.specs.Printing.{IsPrinted, exit_status}
 use Rattle.ags_cli.specs.Streams.{has_failed, inner_of}
-use Rattle.ags_cli.specs.declared.fault.Fault.TheVariants.{NoMemory}
-use Rattle.reg_cli.specs.declared.failure.Failure.{Failure}
-use Rattle.reg_cli.specs.declared.failure.Failure.TheVariants.{Plain}
+use Rattle.ags_cli.specs.declared.error.Fault.TheVariants.{NoMemory}
+use Rattle.reg_cli.specs.declared.error.Failure.{Failure}
+use Rattle.reg_cli.specs.declared.error.Failure.TheVariants.{Plain}
 use Rattle.ags_cli.specs.declared.watched.Watched.{Watched}
 
 module _ {W : Type 0} (writer : WriteGhosts W) where

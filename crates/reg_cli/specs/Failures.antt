@@ -3,8 +3,8 @@ use Rattle.std.specs.Prelude.{ℕ, ℤ, List, ◌++◌, codes}
 use Rattle.std.specs.Fmt.{signed_decimal}
 use Rattle.std.specs.declared.io.Write.{Ghosts as WriteGhosts}
 use Rattle.ags_cli.specs.Faults.{TellsTo, fault_text, fault_status}
-use Rattle.reg_cli.specs.declared.failure.Failure.{Failure}
-use Rattle.reg_cli.specs.declared.failure.Failure.TheVariants.{Plain, CannotRead, CannotWrite, Version, CannotListen}
+use Rattle.reg_cli.specs.declared.error.Failure.{Failure}
+use Rattle.reg_cli.specs.declared.error.Failure.TheVariants.{Plain, CannotRead, CannotWrite, Version, CannotListen}
 use Rattle.ags_cli.specs.declared.watched.Watched.{Watched}
 
 -- the file at a path can not be read

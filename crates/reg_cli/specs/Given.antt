@@ -6,7 +6,7 @@ use Rattle.ags_dict.specs.Entries.{Entries}
 use Rattle.ags_dict.specs.Reading.{IsDictionary}
 use Rattle.ags_cli.specs.Answers.{AnswersOnBytes}
 use Rattle.ags_cli.specs.declared.watched.Watched.{Watched}
-use Rattle.reg_cli.specs.declared.failure.Failure.{Failure}
+use Rattle.reg_cli.specs.declared.error.Failure.{Failure}
 
 module _ {W E : Type 0} (writer : WriteGhosts W) (errors : WriteGhosts E) where
   -- The bytes of a file were read, and the run answers on them under the dictionary that the text is.

@@ -1,19 +1,21 @@
-//! The files that arguments name.
+//! The files that arguments name, and the check of one under the dictionary of another.
 
-ghost use Rattle.std.specs.Prelude.{◌≡◌, ◌≤◌, IfOk, IfSome, length};
+ghost use Rattle.std.specs.Prelude.{◌≡◌, ◌≤◌, false, IfOk, IfSome, length};
+ghost use Rattle.ags_cli.specs.Streams.{has_failed};
 ghost use Rattle.ags_dict.specs.Reading.{IsDictionary};
 ghost use Rattle.reg_policy.specs.Callers.{HasCallers};
 ghost use Rattle.reg_policy.specs.Rules.{HasRules};
+ghost use Rattle.reg_cli.specs.Given.{ChecksUnder};
 
-use crate::failure::Failure;
+use crate::error::Failure;
 use crate::words::Token;
-use ags_cli::Fault;
+use ags_cli::{Fault, Watched, check_stream};
 use ags_dict::{DictError, Dictionary};
 use ags_rows::LIMIT;
 use reg_policy::{Callers, CallersError, Policy, PolicyError};
 use sha2::{Digest, Sha256};
 use std::alloc::Global;
-use std::io::{ErrorKind, Read};
+use std::io::{ErrorKind, Read, Write};
 use std::str::from_utf8;
 use std::{fs, io};
 
@@ -32,7 +34,7 @@ pub fn read_rights<'w>(
     Ok(Rights {
         policy,
         callers: callers_in(alloc, &bytes)?,
-        digests: Digests {
+        digests: RightsDigests {
             policy: policy_digest,
             callers: callers_digest,
         },
@@ -44,12 +46,12 @@ pub fn read_rights<'w>(
 pub struct Rights {
     pub policy: Policy,
     pub callers: Callers,
-    pub digests: Digests,
+    pub digests: RightsDigests,
 }
 
 /// The SHA-256 of the two files. No clause says so.
 #[derive(Clone, Copy)]
-pub struct Digests {
+pub struct RightsDigests {
     pub policy: [u8; 32],
     pub callers: [u8; 32],
 }
@@ -157,4 +159,24 @@ fn unread<'w>(path: &'w str, error: io::Error) -> Failure<'w> {
         ErrorKind::OutOfMemory => Failure::Plain(Fault::NoMemory),
         _ => Failure::CannotRead(path),
     }
+}
+
+/// Checks a file, if it was read, under the dictionary that bytes are: prints its findings, or `clean`, and gives the
+/// status. Bytes that are no dictionary are refused first, then the file, as why it was not read.
+pub fn check_given<'w, W: Write, E: Write>(
+    alloc: Global,
+    dictionary: &[u8],
+    file: Result<Vec<u8>, Failure<'w>>,
+    out: &mut Watched<W>,
+    err: &mut Watched<E>,
+) -> Result<u8, Failure<'w>>
+    requires out { has_failed out.old ≡ false }
+    requires err { has_failed err.old ≡ false }
+    ensures { IfOk result (λ status. ChecksUnder W.Write E.Write dictionary.now file.entry
+        out.old out.new err.old err.new status) }
+{
+    let dictionary = dictionary_in(alloc, dictionary)?;
+    let bytes = file?;
+    let mut input = Watched::new(bytes.as_slice());
+    Ok(check_stream(alloc, &dictionary, &mut input, out, err))
 }

@@ -6,16 +6,16 @@
 //! run, over writers whose bytes they can name. What a check of standard input reads and prints is `ags_cli`.
 #![tactic(auto)]
 
-mod failure;
+mod error;
 mod files;
-mod given;
-mod printing;
+mod report;
 mod session;
 mod words;
 
-pub use failure::Failure;
-pub use files::{Digests, Rights, dictionary_in, read_path, read_rights, read_token};
-pub use given::check_given;
-pub use printing::ask_desk;
-pub use session::{Session, ask_of, day_or, session_of};
+pub use error::Failure;
+pub use files::{
+    Rights, RightsDigests, check_given, dictionary_in, read_path, read_rights, read_token,
+};
+pub use report::ask_desk;
+pub use session::{Session, ask_given, day_or, session_of};
 pub use words::{Action, Asker, Place, Service, Token, Verification, Words, read_words};

@@ -7,8 +7,8 @@ ghost use Rattle.reg_request.specs.Asks.{groups_sought};
 ghost use Rattle.reg_cli.specs.Asking.{AsksDesk};
 ghost use Rattle.reg_cli.specs.Sessions.{IsDayOr, request_in};
 
-use crate::failure::Failure;
-use crate::printing::ask_desk;
+use crate::error::Failure;
+use crate::report::ask_desk;
 use crate::words::{Action, Asker};
 use ags_cli::{Fault, Watched};
 use reg_desk::Desk;
@@ -97,7 +97,7 @@ pub fn day_or(text: Option<&str>, other: Option<Day>) -> Result<Day, Fault>
 }
 
 /// What is asked, on a day, by the arguments that give it. No clause says so.
-pub fn ask_of<'w>(action: &Action<'w>, day: Day) -> Result<Ask<'w>, Fault> {
+pub fn ask_given<'w>(action: &Action<'w>, day: Day) -> Result<Ask<'w>, Fault> {
     match action.verb {
         Verb::Deposit => Ok(Ask::Deposit(day_or(action.embargo, Some(day))?)),
         Verb::Extract => {

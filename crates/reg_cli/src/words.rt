@@ -19,7 +19,7 @@ pub fn read_words<'w, S: AsStr>(alloc: Global, words: &'w [S]) -> Result<Words<'
         return Err(Fault::WordsRefused);
     };
     let given = given_by(alloc, form, words)?;
-    words_of(form.name, &given).ok_or(Fault::WordsRefused)
+    command_words(form.name, &given).ok_or(Fault::WordsRefused)
 }
 
 /// A command with the texts that its arguments give.
@@ -216,7 +216,7 @@ fn flag<'w>(alloc: Global, name: &'w str) -> Arg<'w> {
 }
 
 /// What the arguments of the command of this name give.
-fn words_of<'w>(name: &str, given: &ArgMatches<'w>) -> Option<Words<'w>> {
+fn command_words<'w>(name: &str, given: &ArgMatches<'w>) -> Option<Words<'w>> {
     match name {
         "init" => init_words(given),
         "migrate" => migrate_words(given),
@@ -227,7 +227,7 @@ fn words_of<'w>(name: &str, given: &ArgMatches<'w>) -> Option<Words<'w>> {
         "extract" => asking_words(given, Verb::Extract),
         "list" => asking_words(given, Verb::List),
         "withdraw" => asking_words(given, Verb::Withdraw),
-        "serve" => Some(Words::Serve(service_in(given)?)),
+        "serve" => Some(Words::Serve(service_given(given)?)),
         _ => None,
     }
 }
@@ -269,15 +269,15 @@ fn asking_words<'w>(given: &ArgMatches<'w>, verb: Verb) -> Option<Words<'w>> {
         number: given.get_str("number"),
         file: given.get_str("file"),
     };
-    Some(Words::Ask(asker_in(given)?, action))
+    Some(Words::Ask(asker_given(given)?, action))
 }
 
-fn asker_in<'w>(given: &ArgMatches<'w>) -> Option<Asker<'w>> {
+fn asker_given<'w>(given: &ArgMatches<'w>) -> Option<Asker<'w>> {
     Some(Asker {
         store: given.get_str("store")?,
         policy: given.get_str("policy")?,
         callers: given.get_str("callers")?,
-        token: token_in(given)?,
+        token: token_given(given)?,
         project: given.get_str("project")?,
         day: given.get_str("day"),
         shows_progress: given.get_flag("progress"),
@@ -285,7 +285,7 @@ fn asker_in<'w>(given: &ArgMatches<'w>) -> Option<Asker<'w>> {
 }
 
 /// The token, or the file that has it: one of them.
-fn token_in<'w>(given: &ArgMatches<'w>) -> Option<Token<'w>> {
+fn token_given<'w>(given: &ArgMatches<'w>) -> Option<Token<'w>> {
     match (given.get_str("token"), given.get_str("token-file")) {
         (Some(token), None) => Some(Token::Given(token)),
         (None, Some(path)) => Some(Token::InFile(path)),
@@ -293,7 +293,7 @@ fn token_in<'w>(given: &ArgMatches<'w>) -> Option<Token<'w>> {
     }
 }
 
-fn service_in<'w>(given: &ArgMatches<'w>) -> Option<Service<'w>> {
+fn service_given<'w>(given: &ArgMatches<'w>) -> Option<Service<'w>> {
     let day = given.get_str("day");
     let is_day_by_clock = given.get_flag("day-by-clock");
     if is_day_by_clock && day.is_some() {
@@ -305,9 +305,9 @@ fn service_in<'w>(given: &ArgMatches<'w>) -> Option<Service<'w>> {
         callers: given.get_str("callers")?,
         day,
         is_day_by_clock,
-        place: place_in(given)?,
-        connections: connections_in(given)?,
-        patience: patience_in(given)?,
+        place: place_given(given)?,
+        connections: connections_given(given)?,
+        patience: patience_given(given)?,
         ends_on_failure: given.get_flag("end-on-failure"),
         log: given.get_str("log"),
         reload: given.get_str("reload"),
@@ -316,7 +316,7 @@ fn service_in<'w>(given: &ArgMatches<'w>) -> Option<Service<'w>> {
 }
 
 /// The port, or the socket: one of them.
-fn place_in<'w>(given: &ArgMatches<'w>) -> Option<Place<'w>> {
+fn place_given<'w>(given: &ArgMatches<'w>) -> Option<Place<'w>> {
     match (given.get_str("port"), given.get_str("socket")) {
         (Some(_), None) => Some(Place::Port(number(given, "port", 65_535)? as u16)),
         (None, Some(path)) => Some(Place::Socket(path)),
@@ -325,7 +325,7 @@ fn place_in<'w>(given: &ArgMatches<'w>) -> Option<Place<'w>> {
 }
 
 /// How many connections are served, or that there is no end to them: one of both is given.
-fn connections_in(given: &ArgMatches<'_>) -> Option<Option<u32>> {
+fn connections_given(given: &ArgMatches<'_>) -> Option<Option<u32>> {
     let is_unending = given.get_flag("unending");
     match given.get_str("connections") {
         Some(_) if !is_unending => Some(Some(number(given, "connections", MOST_CONNECTIONS)?)),
@@ -335,7 +335,7 @@ fn connections_in(given: &ArgMatches<'_>) -> Option<Option<u32>> {
 }
 
 /// The seconds of patience with a connection.
-fn patience_in(given: &ArgMatches<'_>) -> Option<u32> {
+fn patience_given(given: &ArgMatches<'_>) -> Option<u32> {
     match given.get_str("patience") {
         Some(_) => number(given, "patience", MOST_PATIENCE),
         None => Some(USUAL_PATIENCE),

@@ -1,7 +1,7 @@
 -- Why a store holds no register that can be opened, or migrated.
-use Rattle.ags_cli.specs.declared.fault.Fault.TheVariants as faults
-use Rattle.reg_cli.specs.declared.failure.Failure.{Failure}
-use Rattle.reg_cli.specs.declared.failure.Failure.TheVariants.{Plain, Version}
+use Rattle.ags_cli.specs.declared.error.Fault.TheVariants as faults
+use Rattle.reg_cli.specs.declared.error.Failure.{Failure}
+use Rattle.reg_cli.specs.declared.error.Failure.TheVariants.{Plain, Version}
 use Rattle.reg_tables.specs.declared.error.AdoptError.{AdoptError}
 use Rattle.reg_tables.specs.declared.error.AdoptError.TheVariants as adopts
 

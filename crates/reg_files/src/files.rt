@@ -6,13 +6,14 @@ ghost use Rattle.sqlite.specs.WalFiles.{image_at};
 ghost use Rattle.reg_tables.specs.Making.{RefusesBytes};
 ghost use Rattle.reg_tables.specs.Migrates.{MigratesFiles};
 ghost use Rattle.reg_tables.specs.Opened.{AdoptsFiles};
+ghost use Rattle.reg_files.specs.Adopting.{adopting};
 
-use crate::failure::{adopting, not_made};
+use ags_cli::Fault;
 use ags_rows::READABLE;
 use reg_app::Registers;
 use reg_cli::Failure;
 use reg_store::Progress;
-use reg_tables::{CreateError, SqlKeep};
+use reg_tables::{AdoptError, CreateError, SqlKeep};
 use sqlite::{FileFrom, FileStore, Start};
 use std::alloc::Global;
 
@@ -126,4 +127,26 @@ fn migrate_store<'w, F: Start, P: Progress>(
         Ok(keep) => Ok(keep),
         Err((error, _connection)) => Err(adopting(error)),
     }
+}
+
+/// The failure to report where a store holds no register that can be opened, or migrated.
+fn adopting<'w>(error: AdoptError) -> Failure<'w>
+    ensures { result ≡ adopting error }
+{
+    match error {
+        AdoptError::NotRegister => Failure::Plain(Fault::NotRegister),
+        AdoptError::Version(number) => Failure::Version(number),
+        AdoptError::Store => Failure::Plain(Fault::StoreFailed),
+        AdoptError::NoMemory => Failure::Plain(Fault::NoMemory),
+    }
+}
+
+/// The failure to report where no register is made.
+fn not_made<'w>(error: CreateError) -> Failure<'w> {
+    Failure::Plain(match error {
+        CreateError::Dictionary(_) => Fault::DictionaryRefused,
+        CreateError::NotEmpty => Fault::StoreNotEmpty,
+        CreateError::Store => Fault::StoreFailed,
+        CreateError::NoMemory => Fault::NoMemory,
+    })
 }

@@ -1,7 +1,6 @@
 //! Registers in files, for the commands of reg_app.
 #![tactic(auto)]
 
-mod failure;
 mod files;
 
 pub use files::Files;

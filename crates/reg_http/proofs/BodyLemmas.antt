@@ -6,7 +6,7 @@ use Rattle.std.specs.Prelude.{IfSome, Vec}
 use Rattle.std.specs.declared.alloc.Global.{Global}
 use Rattle.std.specs.Io.KnownBytes.{Consumes, IsAtEnd}
 use Rattle.reg_http.specs.Views.{ReadsBody}
-use Rattle.reg_http.specs.declared.request.body.BodyFault.TheVariants as fault
+use Rattle.reg_http.specs.declared.error.BodyFault.TheVariants as fault
 use Rattle.reg_http.proofs.FillLemmas.{Consumes-then}
 use Rattle.std.proofs.lemmas.Bool.{cases_lt}
 

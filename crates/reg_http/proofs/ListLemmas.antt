@@ -7,8 +7,8 @@ use Rattle.reg_desk.specs.Asked.{Asked}
 use Rattle.reg_http.specs.Tallies.{IsFresh}
 use Rattle.reg_http.specs.declared.tally.Tally.{Tally}
 use Rattle.reg_desk.specs.declared.answer.Answer.{Answer}
-use Rattle.reg_http.specs.declared.serve.Served.{Served}
-use Rattle.reg_http.specs.declared.serve.IoFault.{IoFault}
+use Rattle.reg_http.specs.declared.connection.Served.{Served}
+use Rattle.reg_http.specs.declared.error.IoFault.{IoFault}
 
 module _ {R W : Type 0} where
   -- each of fresh ones is fresh

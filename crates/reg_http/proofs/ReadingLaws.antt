@@ -9,8 +9,8 @@ use Rattle.reg_http.specs.Asks.{Asking, ask_of, asked_with}
 use Rattle.reg_http.specs.Heads.{IsHead}
 use Rattle.reg_http.specs.HeadParts.{head_parts}
 use Rattle.reg_http.specs.Reading.{HasOneReading, Heard, ReadAs, bad_head, refusal, refused, request, short_body, silent, whole}
-use Rattle.reg_http.specs.declared.refusal.Refusal.{Refusal}
-use Rattle.reg_http.specs.declared.refusal.Refusal.TheVariants.{ShortBody}
+use Rattle.reg_http.specs.declared.error.Refusal.{Refusal}
+use Rattle.reg_http.specs.declared.error.Refusal.TheVariants.{ShortBody}
 use Rattle.reg_http.proofs.HeadLemmas.{none_of_nothing}
 
 -- what a head and the bytes after it are read as

@@ -22,14 +22,14 @@ use Rattle.reg_http.specs.Serving.{Exchange, ServesAnswer, ServesAsked, ServesOn
 use Rattle.reg_http.specs.Views.{FitsBody, ReadsBody}
 use Rattle.reg_http.specs.Reading as reading
 use Rattle.reg_http.specs.Serving as serving
-use Rattle.reg_http.specs.declared.refusal.Refusal.{Refusal}
-use Rattle.reg_http.specs.declared.refusal.Refusal.TheVariants.{BadHead, OutOfMemory, ShortBody}
+use Rattle.reg_http.specs.declared.error.Refusal.{Refusal}
+use Rattle.reg_http.specs.declared.error.Refusal.TheVariants.{BadHead, OutOfMemory, ShortBody}
 use Rattle.reg_desk.specs.declared.answer.Answer.{Answer}
-use Rattle.reg_http.specs.declared.serve.Served.{Served}
-use Rattle.reg_http.specs.declared.serve.IoFault.{IoFault}
-use Rattle.reg_http.specs.declared.serve.IoFault.TheVariants as fault
-use Rattle.reg_http.specs.declared.request.body.BodyFault.{BodyFault}
-use Rattle.reg_http.specs.declared.request.body.BodyFault.TheVariants as ended
+use Rattle.reg_http.specs.declared.connection.Served.{Served}
+use Rattle.reg_http.specs.declared.error.IoFault.{IoFault}
+use Rattle.reg_http.specs.declared.error.IoFault.TheVariants as fault
+use Rattle.reg_http.specs.declared.error.BodyFault.{BodyFault}
+use Rattle.reg_http.specs.declared.error.BodyFault.TheVariants as ended
 
 -- the bytes of a reader are these, where contracts can name them
 abbrev Are : Option (List ℕ) → List ℕ → Type 0

@@ -1,7 +1,7 @@
 -- A step of reading a request beside its definition.
 use Rattle.std.specs.Prelude.{◌≡◌, Bool, true, false, Result, Ok, Err}
-use Rattle.reg_http.specs.declared.refusal.Refusal.{Refusal}
-use Rattle.reg_http.specs.declared.refusal.Refusal.TheVariants.{OutOfMemory}
+use Rattle.reg_http.specs.declared.error.Refusal.{Refusal}
+use Rattle.reg_http.specs.declared.error.Refusal.TheVariants.{OutOfMemory}
 
 -- the request is refused because an allocation failed
 abbrev pub is_out_of_memory : Refusal → Bool

@@ -14,8 +14,8 @@ use Rattle.reg_http.specs.Numbers.{length_in}
 use Rattle.reg_http.specs.HeadParts.{HeadParts, values_in}
 use Rattle.reg_http.specs.Queries.{project_in_path, sought_in}
 use Rattle.reg_http.specs.Routes.{FoundAt, page_in, has_body, verb_in}
-use Rattle.reg_http.specs.declared.refusal.Refusal.{Refusal}
-use Rattle.reg_http.specs.declared.refusal.Refusal.TheVariants.{NoCaller}
+use Rattle.reg_http.specs.declared.error.Refusal.{Refusal}
+use Rattle.reg_http.specs.declared.error.Refusal.TheVariants.{NoCaller}
 
 -- the token after `Bearer` and one space
 abbrev pub token_in : List ℕ → Option (List ℕ)

@@ -15,8 +15,8 @@ use Rattle.reg_http.specs.Tallies.{IsFresh, tally_inner, calls_of, tally_has_fai
 use Rattle.reg_http.specs.declared.tally.Tally.{Tally}
 use Rattle.reg_desk.specs.declared.answer.Answer.{Answer}
 use Rattle.reg_desk.specs.declared.desk.Desk.{Desk}
-use Rattle.reg_http.specs.declared.serve.Served.{Served}
-use Rattle.reg_http.specs.declared.serve.IoFault.{IoFault}
+use Rattle.reg_http.specs.declared.connection.Served.{Served}
+use Rattle.reg_http.specs.declared.error.IoFault.{IoFault}
 
 -- the most calls of `read` that one connection takes: those of the head, and one for each byte of a body and its end
 abbrev pub most_calls : ℕ

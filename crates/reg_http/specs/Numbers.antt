@@ -4,8 +4,8 @@ use Rattle.ags_rows.specs.declared.TheConstants.{LIMIT}
 use Rattle.reg_policy.specs.Days.{number_in}
 use Rattle.reg_request.specs.Numbers.{is_number}
 use Rattle.reg_http.specs.Fields.{Few, none, one, many}
-use Rattle.reg_http.specs.declared.refusal.Refusal.{Refusal}
-use Rattle.reg_http.specs.declared.refusal.Refusal.TheVariants.{LengthRequired, BadLength, TooLarge}
+use Rattle.reg_http.specs.declared.error.Refusal.{Refusal}
+use Rattle.reg_http.specs.declared.error.Refusal.TheVariants.{LengthRequired, BadLength, TooLarge}
 
 -- a length of 1 to 10 digits, up to the limit of a deposit
 abbrev pub length_by : List ℕ → Result ℕ Refusal

@@ -11,8 +11,8 @@ use Rattle.reg_request.specs.Asks.{Sought, deposit, check, listing, extract, wit
 use Rattle.reg_request.specs.Groups.{are_group_names, groups_in}
 use Rattle.reg_request.specs.Numbers.{deposit_number}
 use Rattle.reg_http.specs.Agree.{and_then}
-use Rattle.reg_http.specs.declared.refusal.Refusal.{Refusal}
-use Rattle.reg_http.specs.declared.refusal.Refusal.TheVariants.{BadParameter, Method}
+use Rattle.reg_http.specs.declared.error.Refusal.{Refusal}
+use Rattle.reg_http.specs.declared.error.Refusal.TheVariants.{BadParameter, Method}
 
 -- what an encoded name or value is read as: `+` and percent escapes decoded
 abbrev pub decoded : List ℕ → List ℕ

@@ -6,8 +6,8 @@ use Rattle.reg_http.specs.Asks.{Asking, ask_of, asked_with}
 use Rattle.reg_desk.specs.Asked.{Asked}
 use Rattle.reg_http.specs.Heads.{IsHead, HasNoHead}
 use Rattle.reg_http.specs.HeadParts.{head_parts}
-use Rattle.reg_http.specs.declared.refusal.Refusal.{Refusal}
-use Rattle.reg_http.specs.declared.refusal.Refusal.TheVariants.{BadHead, ShortBody}
+use Rattle.reg_http.specs.declared.error.Refusal.{Refusal}
+use Rattle.reg_http.specs.declared.error.Refusal.TheVariants.{BadHead, ShortBody}
 
 -- what a connection says
 pub data Heard : Type 0 where

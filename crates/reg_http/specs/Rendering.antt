@@ -4,10 +4,10 @@ use Rattle.serde_json.specs.Data.{Data}
 use Rattle.serde_json.specs.Written.{compact_text}
 use Rattle.reg_http.specs.Replies.{reply_text, json_kind, text_kind, error_body}
 use Rattle.reg_http.specs.Bodies.{clean_data, denied_data, findings_data, withdrawn_data, IsReceiptData, IsListingData}
-use Rattle.reg_http.specs.declared.refusal.Refusal.{Refusal}
-use Rattle.reg_http.specs.declared.refusal.Refusal.TheVariants.{BadHead, NoRoute, Method, NoCaller, LengthRequired}
-use Rattle.reg_http.specs.declared.refusal.Refusal.TheVariants.{BadLength, TooLarge, BadParameter, ShortBody}
-use Rattle.reg_http.specs.declared.refusal.Refusal.TheVariants.{OutOfMemory}
+use Rattle.reg_http.specs.declared.error.Refusal.{Refusal}
+use Rattle.reg_http.specs.declared.error.Refusal.TheVariants.{BadHead, NoRoute, Method, NoCaller, LengthRequired}
+use Rattle.reg_http.specs.declared.error.Refusal.TheVariants.{BadLength, TooLarge, BadParameter, ShortBody}
+use Rattle.reg_http.specs.declared.error.Refusal.TheVariants.{OutOfMemory}
 use Rattle.reg_desk.specs.declared.answer.Answer.{Answer}
 use Rattle.reg_desk.specs.declared.answer.Answer.TheVariants as answers
 

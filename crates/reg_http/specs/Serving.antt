@@ -10,12 +10,12 @@ use Rattle.reg_http.specs.Heads.{HasNoHead, IsHead, longest_head}
 use Rattle.reg_http.specs.HeadParts.{head_parts}
 use Rattle.reg_http.specs.Reading.{ReadAs, nothing, refusal, request}
 use Rattle.reg_http.specs.Rendering.{IsRendered, answer_status, is_fixed, rendered, status_of}
-use Rattle.reg_http.specs.declared.refusal.Refusal.{Refusal}
-use Rattle.reg_http.specs.declared.refusal.Refusal.TheVariants.{OutOfMemory, ShortBody}
+use Rattle.reg_http.specs.declared.error.Refusal.{Refusal}
+use Rattle.reg_http.specs.declared.error.Refusal.TheVariants.{OutOfMemory, ShortBody}
 use Rattle.reg_desk.specs.declared.answer.Answer.{Answer}
-use Rattle.reg_http.specs.declared.serve.Served.{Served}
-use Rattle.reg_http.specs.declared.serve.IoFault.{IoFault}
-use Rattle.reg_http.specs.declared.serve.IoFault.TheVariants as fault
+use Rattle.reg_http.specs.declared.connection.Served.{Served}
+use Rattle.reg_http.specs.declared.error.IoFault.{IoFault}
+use Rattle.reg_http.specs.declared.error.IoFault.TheVariants as fault
 
 -- the text was written whole, and the status is given; or a first part of it, where the writer failed
 abbrev pub Written : Option (List ℕ) → Option (List ℕ) → List ℕ → ℕ → Result Served IoFault → Type 0

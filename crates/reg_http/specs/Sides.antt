@@ -16,8 +16,8 @@ use Rattle.reg_http.specs.Views.{asking_at}
 use Rattle.reg_http.specs.declared.request.HeadAsk.{HeadAsk}
 use Rattle.reg_http.specs.declared.request.parts.Parts.{Parts}
 use Rattle.reg_http.specs.declared.tally.Tally.{Tally}
-use Rattle.reg_http.specs.declared.serve.Served.{Served}
-use Rattle.reg_http.specs.declared.serve.IoFault.{IoFault}
+use Rattle.reg_http.specs.declared.connection.Served.{Served}
+use Rattle.reg_http.specs.declared.error.IoFault.{IoFault}
 
 -- the text was written whole to the writer, and the status is given; or a first part of it, where the writer failed
 abbrev pub WrittenTo : {W : Type 0} → WriteGhosts W → Tally W → Tally W → List ℕ → ℕ → Result Served IoFault → Type 0

@@ -9,10 +9,10 @@ use Rattle.reg_policy.specs.declared.callers.Caller.{Caller}
 use Rattle.reg_request.specs.Asks.{sought_at}
 use Rattle.reg_http.specs.Asks.{Asking}
 use Rattle.reg_http.specs.Routes.{FoundAt}
-use Rattle.reg_http.specs.declared.request.route.Found.{Found}
+use Rattle.reg_http.specs.declared.request.route.FoundPage.{FoundPage}
 use Rattle.reg_http.specs.declared.request.HeadAsk.{HeadAsk}
-use Rattle.reg_http.specs.declared.request.body.BodyFault.{BodyFault}
-use Rattle.reg_http.specs.declared.request.body.BodyFault.TheVariants as fault
+use Rattle.reg_http.specs.declared.error.BodyFault.{BodyFault}
+use Rattle.reg_http.specs.declared.error.BodyFault.TheVariants as fault
 
 abbrev pub itself : {A : Type 0} → A → A
 itself a = a
@@ -21,7 +21,7 @@ itself a = a
 abbrev pub first_lent : {A : Type 0} → Bor Caller × A → Caller
 first_lent p = p.0.now
 
-abbrev pub found_page : Found → FoundAt
+abbrev pub found_page : FoundPage → FoundAt
 found_page f = record { page = f.page; project = f.project.now; number = f.number.now }
 
 -- a text that may have been given

@@ -4,16 +4,17 @@
 //! the desk is asked, and its answer is written. A request that is refused never reaches the desk.
 #![tactic(auto)]
 
+mod connection;
+mod error;
 pub mod laws;
 mod list;
 mod notes;
-mod refusal;
 mod reply;
 mod request;
-mod serve;
 mod tally;
 
+pub use connection::{Served, serve_noted, serve_one};
+pub use error::IoFault;
 pub use list::serve_list;
-pub use notes::{Head, Notes};
-pub use serve::{IoFault, Served, serve_noted, serve_one};
+pub use notes::{ConnectionNotes, Head};
 pub use tally::Tally;

@@ -8,7 +8,7 @@ use reg_policy::{Caller, Callers};
 
 /// Takes notes of a connection while it is served. They change neither desk nor reply: no call of these returns
 /// anything. No clause says which of them are made.
-pub trait Notes {
+pub trait ConnectionNotes {
     /// A head within the limits has come.
     fn head(&mut self, head: &Head<'_>);
 
@@ -45,7 +45,7 @@ pub(crate) fn head_in<'b>(callers: &'b Callers, parts: &Parts<'b>) -> Head<'b>
 #[derive(Drop)]
 pub(crate) struct Unnoted;
 
-impl Notes for Unnoted {
+impl ConnectionNotes for Unnoted {
     fn head(&mut self, _head: &Head<'_>) {}
 
     fn answered(&mut self, _request: &Request<'_>, _answer: &Answer) {}

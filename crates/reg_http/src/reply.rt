@@ -4,7 +4,6 @@ ghost use Rattle.reg_http.specs.Replies.{phrase_of, reply_front, with_fields, wi
 
 pub(crate) mod answer;
 pub(crate) mod lists;
-pub(crate) mod write;
 
 use http::StatusCode;
 use std::alloc::{AllocError, Global};

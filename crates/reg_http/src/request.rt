@@ -17,12 +17,12 @@ pub(crate) mod parts;
 pub(crate) mod query;
 pub(crate) mod route;
 
-use crate::refusal::Refusal;
+use crate::error::Refusal;
 use crate::request::body::length_of;
 use crate::request::fields::{Values, values_named};
 use crate::request::parts::Parts;
 use crate::request::query::{project_in_path, read_query};
-use crate::request::route::{Found, find};
+use crate::request::route::{FoundPage, find};
 use ags_rows::LIMIT;
 use httparse::spans::{HeaderSpan, RequestSpans};
 use reg_policy::{Caller, Callers, Day, Name, Verb};
@@ -61,7 +61,7 @@ fn ask_verb<'b>(
     callers: &'b Callers,
     day: Day,
     parts: &Parts<'b>,
-    found: &Found<'b>,
+    found: &FoundPage<'b>,
     verb: Verb,
 ) -> Result<HeadAsk<'b>, Refusal>
     ensures limit { IfOk result (λ a. a.length ≤ LIMIT) }

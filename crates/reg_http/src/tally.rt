@@ -1,8 +1,9 @@
-//! A reader or a writer whose calls are counted.
-ghost use Rattle.std.specs.Prelude.{◌≡◌, ◌||◌, is_err};
+//! A reader or a writer whose calls are counted, and a whole text into such a writer.
+ghost use Rattle.std.specs.Prelude.{◌≡◌, ◌||◌, false, is_err, not};
 ghost use Rattle.std.specs.Io.{ReadsAtMost, WritesAtMost};
 ghost use Rattle.std.specs.Io.KnownBytes.{Keeps, ReadConsumes, WriteAppends};
 ghost use Rattle.reg_http.specs.Tallies.{tally_inner, calls_of, tally_has_failed, IsFresh, one_call_more, is_refused};
+ghost use Rattle.reg_http.specs.Writes.{WritesFront};
 
 use std::io;
 use std::io::{Read, Write};
@@ -103,4 +104,22 @@ impl<W: Write> Write for Tally<W> {
     {
         self.inner.flush()
     }
+}
+
+/// Writes the text, and answers whether all of it was taken.
+/// It is one write where the writer takes it; no clause says so.
+pub(crate) fn write_text<W: Write>(writer: &mut Tally<W>, text: &[u8]) -> bool
+    requires { tally_has_failed writer.old ≡ false }
+    ensures written { WritesFront (W.contents (tally_inner writer.old)) (W.contents (tally_inner writer.new))
+        text.now result }
+    ensures failed { tally_has_failed writer.new ≡ not result }
+{
+    let mut written = 0;
+    'writes: while written < text.len() {
+        match writer.write(&text[written..]) {
+            Ok(count) if count > 0 => written += count,
+            _ => return false,
+        }
+    }
+    true
 }

@@ -5,7 +5,7 @@ ghost use Rattle.std.specs.Prelude.{◌≡◌, false};
 use ags_cli::Watched;
 use ags_dict::Dictionary;
 use ags_rows::built_in::MINI;
-use reg_cli::{Action, Asker, Session, Token, ask_desk, ask_of, session_of};
+use reg_cli::{Action, Asker, Session, Token, ask_desk, ask_given, session_of};
 use reg_desk::Desk;
 use reg_policy::{Callers, Policy, Verb};
 use reg_store::{Keep, PlainKeep};
@@ -66,7 +66,7 @@ fn answers<K: Keep>(
         number: Some("1"),
         file: None,
     };
-    let Ok(ask) = ask_of(&action, session.day) else {
+    let Ok(ask) = ask_given(&action, session.day) else {
         return Err(Fail::from("asked"));
     };
     let groups = ask.groups(alloc)?;

@@ -4,7 +4,7 @@ use super::{Failing, failing_after};
 use ags_cli::Watched;
 use ags_dict::Dictionary;
 use ags_rows::built_in::MINI;
-use reg_app::{Listener, Log, Look, Reload, Running, Serving, serve_on};
+use reg_app::{Listener, Log, Reload, Renewal, Running, Server, Serving, serve_on};
 use reg_desk::Desk;
 use reg_policy::{Callers, Policy};
 use reg_store::{Keep, NextStart, PlainKeep};
@@ -311,8 +311,8 @@ impl Clock for Calendar {
 struct Unchanged;
 
 impl<'w, L> Reload<'w, L> for Unchanged {
-    fn look(&mut self, _alloc: Global) -> Look<'w, L> {
-        Look::Same
+    fn look(&mut self, _alloc: Global) -> Renewal<'w, L> {
+        Renewal::Same
     }
 }
 
@@ -345,25 +345,21 @@ fn serve_running<K: Keep + NextStart + Drop, C: Clock, W: Write, L: Write + Drop
     running: Running<K, L>,
     out: &mut W,
 ) -> u8 {
-    let serving = Serving {
-        day: None,
-        patience: Duration::from_secs(1),
-        connections,
-        ends_on_failure: false,
+    let server = Server {
+        alloc,
+        clock,
+        listener,
+        serving: Serving {
+            day: None,
+            patience: Duration::from_secs(1),
+            connections,
+            ends_on_failure: false,
+        },
     };
     let mut said = Vec::new(alloc);
     let err = &mut Watched::new(&mut said);
     let out = &mut Watched::new(out);
-    let (served, _keep) = serve_on(
-        alloc,
-        clock,
-        listener,
-        &serving,
-        running,
-        &mut Unchanged,
-        out,
-        err,
-    );
+    let (served, _keep) = serve_on(&server, running, &mut Unchanged, out, err);
     match served {
         Ok(()) => 0,
         Err(fault) => fault.status(),

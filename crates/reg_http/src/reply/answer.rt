@@ -6,7 +6,7 @@ ghost use Rattle.reg_http.specs.Bodies.{clean_data, denied_data, receipt_data, w
 ghost use Rattle.reg_http.specs.Rendering.{answer_status, is_fixed, IsRendered};
 ghost use Rattle.reg_http.specs.Replies.{json_kind, reply_text};
 
-use crate::refusal::{Refusal, error_reply};
+use crate::error::{Refusal, error_reply};
 use crate::reply::lists::{findings_text, listing_text};
 use crate::reply::reply_front;
 use crate::request::as_text;

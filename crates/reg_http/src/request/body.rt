@@ -5,7 +5,7 @@ ghost use Rattle.reg_http.specs.Tallies.{tally_inner, calls_of, tally_has_failed
 ghost use Rattle.std.specs.Io.KnownBytes.{Consumes, IsAtEnd};
 ghost use Rattle.reg_http.specs.Views.{FitsBody, ReadsBody, is_read_fault};
 
-use crate::refusal::Refusal;
+use crate::error::{BodyFault, Refusal};
 use crate::request::head::read_more;
 use crate::tally::Tally;
 use ags_rows::LIMIT;
@@ -45,17 +45,6 @@ pub(crate) fn receive_body<R: Read>(
         }
     }
     Ok(body)
-}
-
-/// Why there is no body.
-#[derive(Clone, Copy, Debug, PartialEq, Eq)]
-pub(crate) enum BodyFault {
-    /// A read failed.
-    Read,
-    /// The bytes ended early.
-    Short,
-    /// Memory was refused.
-    Memory,
 }
 
 /// Reads once into the first `room` bytes of the chunk.

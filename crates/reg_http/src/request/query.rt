@@ -8,7 +8,7 @@ ghost use Rattle.reg_http.specs.Queries.{bare, decoded, embargo_in, extract_in, 
 ghost use Rattle.reg_http.specs.Queries.{sought_in, value_in, value_of};
 ghost use Rattle.reg_http.specs.Views.{given_text, itself};
 
-use crate::refusal::Refusal;
+use crate::error::Refusal;
 use form_urlencoded::{decode, raw_pairs};
 use reg_policy::{Day, Name, NameError, Verb};
 use reg_request::{Ask, lists_groups, number_of_deposit};

@@ -5,13 +5,13 @@ ghost use Rattle.reg_http.specs.Agree.{IsAsDefined};
 ghost use Rattle.reg_http.specs.Routes.{page_in, method_of, table, taken_by, verb_in};
 ghost use Rattle.reg_http.specs.Views.{found_page};
 
-use crate::refusal::Refusal;
+use crate::error::Refusal;
 use matchit::{InsertError, Params, Router};
 use reg_policy::Verb;
 use std::alloc::Global;
 
 /// The page of a path.
-pub(crate) fn find<'p>(alloc: Global, path: &'p str) -> Result<Found<'p>, Refusal>
+pub(crate) fn find<'p>(alloc: Global, path: &'p str) -> Result<FoundPage<'p>, Refusal>
     ensures { IsAsDefined found_page (page_in path.now) result }
 {
     match router(alloc) {
@@ -22,7 +22,7 @@ pub(crate) fn find<'p>(alloc: Global, path: &'p str) -> Result<Found<'p>, Refusa
 
 /// The page of a path, with what its route's parameters took.
 #[derive(Clone, Copy, Debug)]
-pub(crate) struct Found<'p> {
+pub(crate) struct FoundPage<'p> {
     pub(crate) page: Page,
     /// The project's part of the path.
     pub(crate) project: &'p str,
@@ -54,12 +54,12 @@ fn router(alloc: Global) -> Result<Router<Page>, InsertError>
 }
 
 /// The page of a path, by the table.
-fn found_in<'p>(routes: &Router<Page>, path: &'p str) -> Result<Found<'p>, Refusal>
+fn found_in<'p>(routes: &Router<Page>, path: &'p str) -> Result<FoundPage<'p>, Refusal>
     requires { routes.now ≡ table }
     ensures { IsAsDefined found_page (page_in path.now) result }
 {
     match routes.at(path) {
-        Ok(found) => Ok(Found {
+        Ok(found) => Ok(FoundPage {
             page: *found.value,
             project: part(&found.params, "project"),
             number: part(&found.params, "number"),

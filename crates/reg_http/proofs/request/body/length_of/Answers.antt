@@ -4,7 +4,7 @@ use Rattle.ags_rows.specs.declared.TheConstants.{LIMIT}
 use Rattle.reg_policy.specs.Days.{number_in}
 use Rattle.reg_request.specs.Numbers.{is_number}
 use Rattle.reg_http.specs.Numbers.{length_by}
-use Rattle.reg_http.specs.declared.refusal.Refusal.TheVariants.{TooLarge}
+use Rattle.reg_http.specs.declared.error.Refusal.TheVariants.{TooLarge}
 use Rattle.reg_http.proofs.request.body.length_of.Goals as goal
 
 -- a length above the limit is refused
