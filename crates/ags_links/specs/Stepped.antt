@@ -3,6 +3,6 @@ use Rattle.std.specs.Prelude.{ℕ, List}
 use Rattle.ags_links.specs.declared.steps.SteppedTo.{SteppedTo}
 use Rattle.ags_links.specs.declared.steps.SteppedTo.TheVariants.{Parents, Listed}
 
-abbrev pub rows_of : SteppedTo → List ℕ
-rows_of (Parents rows) = rows.now
-rows_of (Listed rows) = rows.items
+abbrev pub stepped_rows : SteppedTo → List ℕ
+stepped_rows (Parents rows) = rows.now
+stepped_rows (Listed rows) = rows.items

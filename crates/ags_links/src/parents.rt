@@ -315,7 +315,7 @@ fn rows_by_entries(
     };
     for number in numbers {
         let (row, _) = filed.row(*number as usize);
-        stood = places_at(filed, headings, row.place, stood)?;
+        stood = places_in_group(filed, headings, row.place, stood)?;
         entries.clear();
         push_entries(&mut entries, row, &stood.places)?;
         push_asked(alloc, asked, &entries, *number, &mut pairs)?;
@@ -325,7 +325,7 @@ fn rows_by_entries(
 
 /// Where the headings are in the rows of the group at this place. Those of the row before are taken where it is of the
 /// same group.
-fn places_at(
+fn places_in_group(
     filed: &FiledRows<'_, '_, '_, '_>,
     headings: &[&[u8]],
     place: usize,

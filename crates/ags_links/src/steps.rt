@@ -7,7 +7,7 @@ ghost use Rattle.ags_text.specs.Names.{is_definition};
 ghost use Rattle.ags_links.specs.Adding.{AddsRows};
 ghost use Rattle.ags_links.specs.DataRows.{ListsRows};
 ghost use Rattle.ags_links.specs.Indexing.{rows_in, IsNamedAmong, IsLinkedAt, IsLinkStepAt, IsFileStepAt};
-ghost use Rattle.ags_links.specs.Stepped.{rows_of};
+ghost use Rattle.ags_links.specs.Stepped.{stepped_rows};
 ghost use Rattle.ags_links.specs.Steps.{StepAt};
 
 use crate::index::{Index, each_once};
@@ -24,7 +24,7 @@ pub(crate) enum SteppedTo<'i> {
 impl<'i> SteppedTo<'i> {
     /// The rows, rising, each once.
     pub(crate) fn rows(&self) -> &[u32]
-        ensures { result.now ≡ rows_of self.now }
+        ensures { result.now ≡ stepped_rows self.now }
     {
         match self {
             SteppedTo::Parents(rows) => rows,
@@ -40,7 +40,7 @@ pub(crate) fn rows_stepped_to<'i>(
     row: u32,
 ) -> Result<SteppedTo<'i>, AllocError>
     requires { row < length (rows_in index.now) }
-    ensures { IfOk result (λ stepped. ListsRows (rows_of stepped) (StepAt index.now row)) }
+    ensures { IfOk result (λ stepped. ListsRows (stepped_rows stepped) (StepAt index.now row)) }
 {
     let mut found = Vec::new(alloc);
     add_link_steps(index, row, &mut found)?;

@@ -34,7 +34,7 @@ use Rattle.reg_tables.specs.declared.error.TableError.{TableError}
 use Rattle.reg_tables.specs.declared.error.TableError.TheVariants as table
 use Rattle.reg_tables.specs.Private.Commits.{Makes}
 use Rattle.reg_tables.specs.declared.error.AdoptError.TheVariants.{Store}
-use Rattle.reg_tables.specs.Private.Errors.{adopt_error, is_store}
+use Rattle.reg_tables.specs.Private.Errors.{adopt_error, is_of_database}
 use Rattle.reg_tables.specs.Quiet.{IsStill}
 use Rattle.reg_tables.proofs.QuietLaws.{clean_before}
 use Rattle.reg_tables.specs.declared.schema.format.Format.TheVariants.{First, Second}
@@ -223,7 +223,7 @@ migrates_then start mid new dictionary memory quiet found crash =
 
 -- and what it leaves where that was refused
 pub refused_then : (start mid new : State) (dictionary : Entries) (memory : Memory) (e : TableError) → IsStill start mid false → (HasCleanDisk mid → RecallsFirst start.now dictionary memory)
-    → Survives mid new (ChangesOf Migrates mid) → (is_store e ≡ false → Survives mid new (λ _. ⊥)) → Survives start new (λ trees. (adopt_error e ≡ Store) × IsMigrated start trees)
+    → Survives mid new (ChangesOf Migrates mid) → (is_of_database e ≡ false → Survives mid new (λ _. ⊥)) → Survives start new (λ trees. (adopt_error e ≡ Store) × IsMigrated start trees)
 refused_then start mid new dictionary memory table.Store quiet found crash none =
     survives_weaker start new _ _ (λ _ _ left. (refl, left)) (migrates_then start mid new dictionary memory quiet found crash)
 refused_then start mid new dictionary memory table.NoMemory quiet found crash none =

@@ -22,7 +22,7 @@ use Rattle.reg_tables.specs.declared.error.TableError.{TableError}
 use Rattle.reg_tables.specs.declared.error.TableError.TheVariants as table
 use Rattle.reg_tables.specs.declared.error.AdoptError.{AdoptError}
 use Rattle.reg_tables.specs.declared.error.AdoptError.TheVariants.{NoMemory, Store}
-use Rattle.reg_tables.specs.Private.Errors.{adopt_error, fails, is_store}
+use Rattle.reg_tables.specs.Private.Errors.{adopt_error, database_fails, is_of_database}
 use Rattle.reg_tables.specs.Adoption.{gives_up, is_store_failure}
 use Rattle.reg_tables.specs.Quiet.{IsAsBefore, IsStill, IsUndone}
 use Rattle.reg_tables.proofs.QuietLaws.{clean_before, quiet_read, same_then, survives_same}
@@ -172,14 +172,14 @@ fault_is P table.NoMemory a is store memory = subst P (sym is) memory
 fault_is P table.Store a is store memory = subst P (sym is) store
 
 -- the answer is `Store` where the call failed with `Store`
-pub fault_quiet : (old new : State) (e : TableError) (a : AdoptError) → a ≡ adopt_error e → IsStill old new (is_store e) → IsStill old new (is_store_failure a)
+pub fault_quiet : (old new : State) (e : TableError) (a : AdoptError) → a ≡ adopt_error e → IsStill old new (is_of_database e) → IsStill old new (is_store_failure a)
 fault_quiet old new table.Store a is quiet = subst (λ (x : AdoptError). IsStill old new (is_store_failure x)) (sym is) quiet
 fault_quiet old new table.NoMemory a is quiet = subst (λ (x : AdoptError). IsStill old new (is_store_failure x)) (sym is) quiet
 
 -- ---- a refusal that `?` passes on
 
 -- a call that fails with the error of another fails as that did
-pub passed_quiet : {X : Type 0} (old new : State) (r : Result X TableError) (e : TableError) → IsErrAnd r (λ d. d ≡ e) → IsStill old new (is_store e) → IsStill old new (fails r)
+pub passed_quiet : {X : Type 0} (old new : State) (r : Result X TableError) (e : TableError) → IsErrAnd r (λ d. d ≡ e) → IsStill old new (is_of_database e) → IsStill old new (database_fails r)
 passed_quiet old new r e is quiet = let p = err_from_is_err_and r is in rw (p.1, p.2) quiet
 
 pub refused_as : {X : Type 0} (P : AdoptError → Type 0) (r : Result X AdoptError) (e : AdoptError) → IsErrAnd r (λ d. d ≡ e) → P e → IfErr r P
@@ -189,7 +189,7 @@ pub gives_up_quiet : {X : Type 0} (old new : State) (r : Result X AdoptError) (e
 gives_up_quiet old new r e is quiet = let p = err_from_is_err_and r is in rw (p.1, p.2) quiet
 
 -- so does one whose error is made of it
-pub raised_quiet : {X : Type 0} (old new : State) (r : Result X AdoptError) (e : TableError) → IsErrAnd r (λ a. a ≡ adopt_error e) → IsStill old new (is_store e) → IsStill old new (gives_up r)
+pub raised_quiet : {X : Type 0} (old new : State) (r : Result X AdoptError) (e : TableError) → IsErrAnd r (λ a. a ≡ adopt_error e) → IsStill old new (is_of_database e) → IsStill old new (gives_up r)
 raised_quiet old new r e is quiet = let p = err_from_is_err_and r is in rw p.1 (fault_quiet old new e p.0 p.2 quiet)
 
 pub raised_is : {X : Type 0} (P : AdoptError → Type 0) (r : Result X AdoptError) (e : TableError) → IsErrAnd r (λ a. a ≡ adopt_error e) → P Store → P NoMemory → IfErr r P

@@ -9,34 +9,34 @@ use Rattle.reg_store.specs.Keep.{Adds, Reads, fails, is_store}
 use Rattle.reg_store.specs.Deposit.{Deposit}
 use Rattle.reg_tables.specs.declared.error.TableError.{TableError}
 use Rattle.reg_tables.specs.declared.error.TableError.TheVariants.{Store, NoMemory}
-use Rattle.reg_tables.specs.Private.Errors.{answer_of, fails as failed, is_store as is_failure, keep_error}
+use Rattle.reg_tables.specs.Private.Errors.{keep_answer, database_fails, is_of_database, keep_error}
 use Rattle.reg_tables.proofs.KeepLaws.{left_list, left_same}
 use Rattle.reg_tables.specs.Quiet.{IsStill}
 use Rattle.reg_tables.proofs.QuietLaws.{clean_before}
 use Rattle.reg_tables.specs.Register.{deposits_in, text_in, LeavesBroken, LeavesList}
 
 -- the store failed where the tables did
-pub error_fails : (e : TableError) → is_store (keep_error e) ≡ is_failure e
+pub error_fails : (e : TableError) → is_store (keep_error e) ≡ is_of_database e
 error_fails Store = refl
 error_fails NoMemory = refl
 
-pub answer_fails : {X : Type 0} (r : Result X TableError) → fails (answer_of r) ≡ failed r
+pub answer_fails : {X : Type 0} (r : Result X TableError) → fails (keep_answer r) ≡ database_fails r
 answer_fails (Ok x) = refl
 answer_fails (Err e) = error_fails e
 
 -- and it is not full
-pub never_full : {X : Type 0} (r : Result X TableError) → IfErr (answer_of r) (λ e. e ≢ Full)
+pub never_full : {X : Type 0} (r : Result X TableError) → IfErr (keep_answer r) (λ e. e ≢ Full)
 never_full (Ok x) = tt
 never_full (Err Store) = λ is. cc
 never_full (Err NoMemory) = λ is. cc
 
 -- what was found is answered
-pub answered : {X : Type 0} (P : X → Type 0) (r : Result X TableError) {answer : Result X KeepError} → answer ≡ answer_of r → IfOk r P → IfOk answer P
+pub answered : {X : Type 0} (P : X → Type 0) (r : Result X TableError) {answer : Result X KeepError} → answer ≡ keep_answer r → IfOk r P → IfOk answer P
 answered P (Ok x) is found = rw is found
 answered P (Err e) is found = rw is tt
 
 -- what is answered was found
-pub found_of : {X : Type 0} (r : Result X TableError) (x : X) → answer_of r ≡ Ok x → r ≡ Ok x
+pub found_of : {X : Type 0} (r : Result X TableError) (x : X) → keep_answer r ≡ Ok x → r ≡ Ok x
 found_of (Ok y) x is = ap (λ z. Ok z) (let same : y ≡ x = cc in same)
 found_of (Err e) x is = absurd cc
 
@@ -57,10 +57,10 @@ module _ {K : Type 0} (held : K → State) (dictionary : K → Entries) (limit :
   }
 
   -- so it was where the tables were read, and the store answers what they did
-  pub reads_table : {X : Type 0} (old new : K) (r : Result X TableError) (answer : Result X KeepError) → answer ≡ answer_of r → IsStill (held old) (held new) (failed r) → dictionary new ≡ dictionary old → has_failed new ≡ failed r
+  pub reads_table : {X : Type 0} (old new : K) (r : Result X TableError) (answer : Result X KeepError) → answer ≡ keep_answer r → IsStill (held old) (held new) (database_fails r) → dictionary new ≡ dictionary old → has_failed new ≡ database_fails r
       → Reads (λ k. deposits_in (held k).committed.trees) dictionary (λ k. text_in (held k).committed.trees) (λ _. limit) has_failed (λ k. LeavesList (held k).may_leave (dictionary k)) (λ k. LeavesBroken (held k).may_leave (dictionary k)) (λ k. HasCleanDisk (held k)) old new answer
   reads_table old new r answer is still same failing =
-      rw is (reads_still old new (answer_of r) (subst (IsStill (held old) (held new)) (sym (answer_fails r)) still) same (failing ∙ sym (answer_fails r)) (never_full r))
+      rw is (reads_still old new (keep_answer r) (subst (IsStill (held old) (held new)) (sym (answer_fails r)) still) same (failing ∙ sym (answer_fails r)) (never_full r))
 
 module _ {K : Type 0} {deposits : K → List Deposit} {dictionary : K → Entries} {text : K → List ℕ} {limit : K → ℕ} {has_failed : K → Bool} {may_leave : K → List ℕ → List Deposit → Type 0} {may_break : K → Type 0} {is_sound : K → Type 0} where
   -- another answer, which is refused by `Store` where this one is

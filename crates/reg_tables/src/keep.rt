@@ -1,7 +1,7 @@
 //! A store of deposits over a database.
 
 ghost use Rattle.std.specs.Prelude.{◌≡◌, length, false};
-ghost use Rattle.reg_tables.specs.Private.Errors.{answer_of, fails};
+ghost use Rattle.reg_tables.specs.Private.Errors.{keep_answer, database_fails};
 ghost use Rattle.reg_tables.specs.Private.KeepLaws.{few_at, fit_at, remains_at, settled_at, stays_at, unbroken_at};
 ghost use Rattle.sqlite.specs.State.{HasCleanDisk};
 ghost use Rattle.sqlite.specs.Held.{state};
@@ -225,8 +225,8 @@ impl<S: Alter + Drop> Drop for SqlKeep<S> {
 
 /// What a call answers, and whether the store failed in it.
 fn answer<T>(outcome: Result<T, TableError>, has_failed: &mut bool) -> Result<T, KeepError>
-    ensures answer { result ≡ answer_of outcome }
-    ensures failing { has_failed.new ≡ fails outcome }
+    ensures answer { result ≡ keep_answer outcome }
+    ensures failing { has_failed.new ≡ database_fails outcome }
 {
     match outcome {
         Ok(found) => {

@@ -6,7 +6,7 @@ ghost use Rattle.reg_tables.specs.Quiet.{IsIdle, IsStill, FindsThat};
 ghost use Rattle.reg_tables.specs.Private.Found.{FindsAll, rows_numbered};
 ghost use Rattle.reg_tables.specs.Private.Digests.{IsRowOf};
 ghost use Rattle.reg_store.specs.Keep.{sent_of};
-ghost use Rattle.reg_tables.specs.Private.Errors.{fails};
+ghost use Rattle.reg_tables.specs.Private.Errors.{database_fails};
 ghost use Rattle.reg_store.specs.Fit.{IsNamed};
 
 pub(crate) mod equal;
@@ -33,7 +33,7 @@ pub(crate) fn read_deposit<S: Alter>(
     ensures found { FindsThat result (λ db kept. IsRowOf db number (sent_of kept))
         (state S.Store conn.old) (state S.Store conn.new) }
     ensures is_named { IfOk result (λ kept. IsNamed (sent_of kept)) }
-    ensures quiet { IsStill (state S.Store conn.old) (state S.Store conn.new) (fails result) }
+    ensures quiet { IsStill (state S.Store conn.old) (state S.Store conn.new) (database_fails result) }
 {
     let rows = read_numbered(conn, number)?;
     deposit_in(alloc, number, &rows)
@@ -46,7 +46,7 @@ pub(crate) fn read_numbered<S: Alter>(
 ) -> Result<Vec<Row>, TableError>
     requires idle { IsIdle (state S.Store conn.old) }
     ensures found { FindsAll result (rows_numbered number) (state S.Store conn.old) (state S.Store conn.new) }
-    ensures quiet { IsStill (state S.Store conn.old) (state S.Store conn.new) (fails result) }
+    ensures quiet { IsStill (state S.Store conn.old) (state S.Store conn.new) (database_fails result) }
 {
     query(
         conn,

@@ -5,7 +5,7 @@ ghost use Rattle.sqlite.specs.State.{HasCleanDisk};
 ghost use Rattle.sqlite.specs.Held.{state};
 ghost use Rattle.reg_policy.specs.Days.{is_day_number};
 ghost use Rattle.reg_store.specs.Fit.{IsNamed, kept_rows};
-ghost use Rattle.reg_tables.specs.Private.Errors.{fails};
+ghost use Rattle.reg_tables.specs.Private.Errors.{database_fails};
 ghost use Rattle.reg_tables.specs.Private.Commits.{CommitsAll, UndoesUnlessFailed};
 ghost use Rattle.reg_tables.specs.Private.Filed.{AddsChecked, SurvivesAdding};
 ghost use Rattle.reg_tables.specs.Tables.{register_schema};
@@ -54,7 +54,7 @@ pub(crate) fn add_checked<S: Alter>(
     // Deposit, transaction and connection in either case, and what a crash may leave.
     ensures mode { conn.new.in_transaction ≡ false }
     ensures fit { IsNamed (deposit_from firm.now project.now embargo checked.now.bytes) }
-    ensures open { HasCleanDisk (state S.Store conn.new) → fails result ≡ false
+    ensures open { HasCleanDisk (state S.Store conn.new) → database_fails result ≡ false
         → IsTrue (state S.Store conn.new).is_open }
     ensures crash { SurvivesAdding number firm.now project.now embargo checked.now
         (state S.Store conn.old) (state S.Store conn.new) }

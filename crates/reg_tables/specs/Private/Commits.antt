@@ -3,7 +3,7 @@ use Rattle.std.specs.Prelude.{◌≡◌, false, IsTrue, Result, OnOk, OnErr}
 use Rattle.sqlite.specs.Effect.{Database, IsDatabase}
 use Rattle.sqlite.specs.State.{State, HasCleanDisk}
 use Rattle.reg_tables.specs.declared.error.TableError.{TableError}
-use Rattle.reg_tables.specs.Private.Errors.{fails}
+use Rattle.reg_tables.specs.Private.Errors.{database_fails}
 use Rattle.reg_tables.specs.Quiet.{IsUndone}
 
 -- The change is made, and what it makes is a database.
@@ -29,4 +29,4 @@ UndoesIfOpen result old new = HasCleanDisk new → IsTrue new.is_open → OnErr 
 
 -- On a clean disk, all is undone by an error that is not `Store`.
 abbrev pub UndoesUnlessFailed : {A : Type 0} → Result A TableError → State → State → Type 0
-UndoesUnlessFailed result old new = HasCleanDisk new → fails result ≡ false → OnErr result (IsUndone old new)
+UndoesUnlessFailed result old new = HasCleanDisk new → database_fails result ≡ false → OnErr result (IsUndone old new)

@@ -7,7 +7,7 @@ ghost use Rattle.sqlite.specs.Tree.{IsAscending};
 ghost use Rattle.ags_links.specs.Steps.{IsBefore};
 ghost use Rattle.ags_check.specs.Findings.{IsClean};
 ghost use Rattle.reg_store.specs.Keep.{sent_of};
-ghost use Rattle.reg_tables.specs.Private.Errors.{fails};
+ghost use Rattle.reg_tables.specs.Private.Errors.{database_fails};
 ghost use Rattle.reg_tables.specs.Quiet.{IsIdle, IsStill, FindsThat};
 ghost use Rattle.reg_tables.specs.Private.Found.{FindsOneIf, FindsOut, OnYes};
 ghost use Rattle.reg_tables.specs.Rows.{given_deposit};
@@ -63,7 +63,7 @@ pub(crate) fn examine_deposits<S: Alter, P: Progress>(
         (state S.Store conn.old) (state S.Store conn.new) }
 
     // What is left in either case.
-    ensures quiet { IsStill (state S.Store conn.old) (state S.Store conn.new) (fails result) }
+    ensures quiet { IsStill (state S.Store conn.old) (state S.Store conn.new) (database_fails result) }
 {
     progress.checked(0, count);
     for at in 0..count {
@@ -93,7 +93,7 @@ fn examine_deposit<S: Alter>(
         (state S.Store conn.old) (state S.Store conn.new) }
     ensures put { AddsKnown result dictionary.now number known.old known.new digests.old digests.new
         (state S.Store conn.old) (state S.Store conn.new) }
-    ensures quiet { IsStill (state S.Store conn.old) (state S.Store conn.new) (fails result) }
+    ensures quiet { IsStill (state S.Store conn.old) (state S.Store conn.new) (database_fails result) }
 {
     let Some(one) = whole_head(conn, alloc, dictionary, number, digests)? else {
         return Ok(false);
@@ -124,7 +124,7 @@ fn whole_head<S: Alter>(
         (state S.Store conn.old) (state S.Store conn.new) }
     ensures head { FindsThat result (λ db found. IfSome found (IsDigestedAt db dictionary.now number))
         (state S.Store conn.old) (state S.Store conn.new) }
-    ensures quiet { IsStill (state S.Store conn.old) (state S.Store conn.new) (fails result) }
+    ensures quiet { IsStill (state S.Store conn.old) (state S.Store conn.new) (database_fails result) }
 {
     let rows = read_numbered(conn, number)?;
     match take_deposit(alloc, number, rows) {
@@ -158,7 +158,7 @@ fn kept_head<S: Alter>(
         × IsNew db (numbers_under digests.now (own_digest (sent_of kept))) (sent_of kept))
         (state S.Store conn.old) (state S.Store conn.new) }
     ensures head { IfOk result (λ found. IfSome found (IsDigestedFrom dictionary.now (sent_of kept))) }
-    ensures quiet { IsStill (state S.Store conn.old) (state S.Store conn.new) (fails result) }
+    ensures quiet { IsStill (state S.Store conn.old) (state S.Store conn.new) (database_fails result) }
 {
     let digest = digest_of(&kept.firm, &kept.project, kept.bytes.as_slice());
     let numbers = digests.of(&digest);
@@ -186,7 +186,7 @@ fn examine_kept<S: Alter>(
         × IsNew db numbers.now (sent_of kept.now))
         (state S.Store conn.old) (state S.Store conn.new) }
     ensures known { IfOk result (λ found. IfSome found (KnowsFile dictionary.now (sent_of kept.now))) }
-    ensures quiet { IsStill (state S.Store conn.old) (state S.Store conn.new) (fails result) }
+    ensures quiet { IsStill (state S.Store conn.old) (state S.Store conn.new) (database_fails result) }
 {
     let Some(file) = examine_body(conn, alloc, dictionary, number, kept)? else {
         return Ok(None);
@@ -208,7 +208,7 @@ fn examine_repeats<S: Alter>(
     requires idle { IsIdle (state S.Store conn.old) }
     ensures tested { FindsOut result (λ db. IsNew db numbers.now (sent_of kept.now))
         (state S.Store conn.old) (state S.Store conn.new) }
-    ensures quiet { IsStill (state S.Store conn.old) (state S.Store conn.new) (fails result) }
+    ensures quiet { IsStill (state S.Store conn.old) (state S.Store conn.new) (database_fails result) }
 {
     let repeat = read_equal(
         conn,
@@ -234,7 +234,7 @@ fn examine_body<S: Alter>(
     ensures tested { FindsOneIf result (λ db. HoldsBody db dictionary.now number (sent_of kept.now))
         (state S.Store conn.old) (state S.Store conn.new) }
     ensures known { IfOk result (λ found. IfSome found (KnowsFile dictionary.now (sent_of kept.now))) }
-    ensures quiet { IsStill (state S.Store conn.old) (state S.Store conn.new) (fails result) }
+    ensures quiet { IsStill (state S.Store conn.old) (state S.Store conn.new) (database_fails result) }
 {
     let bytes = kept.bytes.as_slice();
     if bytes.len() > LIMIT {
@@ -261,7 +261,7 @@ fn examine_checked<S: Alter>(
         × HoldsSteps db number file.now.graph.steps)
         (state S.Store conn.old) (state S.Store conn.new) }
     ensures known { IfOk result (λ found. IfSome found (IsKnownOf file.now)) }
-    ensures quiet { IsStill (state S.Store conn.old) (state S.Store conn.new) (fails result) }
+    ensures quiet { IsStill (state S.Store conn.old) (state S.Store conn.new) (database_fails result) }
 {
     let lines = few_rows(alloc, file)?;
     let known = KnownFile::of(alloc, file, &lines)?;
@@ -284,7 +284,7 @@ fn examine_file<S: Alter>(
     requires rising { IsAscending IsBefore steps.now }
     ensures tested { FindsOut result (λ db. HoldsLines db number lines.now × HoldsSteps db number steps.now)
         (state S.Store conn.old) (state S.Store conn.new) }
-    ensures quiet { IsStill (state S.Store conn.old) (state S.Store conn.new) (fails result) }
+    ensures quiet { IsStill (state S.Store conn.old) (state S.Store conn.new) (database_fails result) }
 {
     if examine_lines(conn, number, lines)? {
         examine_steps(conn, number, steps)
@@ -303,7 +303,7 @@ fn examine_lines<S: Alter>(
     requires few { length lines.now ≤ 4294967295 }
     ensures tested { FindsOut result (λ db. HoldsLines db number lines.now)
         (state S.Store conn.old) (state S.Store conn.new) }
-    ensures quiet { IsStill (state S.Store conn.old) (state S.Store conn.new) (fails result) }
+    ensures quiet { IsStill (state S.Store conn.old) (state S.Store conn.new) (database_fails result) }
 {
     let mut same = SameLines {
         lines,
@@ -329,7 +329,7 @@ fn examine_steps<S: Alter>(
     requires rising { IsAscending IsBefore steps.now }
     ensures tested { FindsOut result (λ db. HoldsSteps db number steps.now)
         (state S.Store conn.old) (state S.Store conn.new) }
-    ensures quiet { IsStill (state S.Store conn.old) (state S.Store conn.new) (fails result) }
+    ensures quiet { IsStill (state S.Store conn.old) (state S.Store conn.new) (database_fails result) }
 {
     let mut same = SameSteps {
         steps,

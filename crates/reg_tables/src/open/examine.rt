@@ -4,7 +4,7 @@ ghost use Rattle.std.specs.Prelude.{◌≡◌, ◌≤◌, ◌+◌, [], ℕ, List
 ghost use Rattle.std.specs.Prelude.{IfErr, IfSome, None};
 ghost use Rattle.sqlite.specs.State.{HasCleanDisk};
 ghost use Rattle.sqlite.specs.Held.{state};
-ghost use Rattle.reg_tables.specs.Private.Errors.{fails};
+ghost use Rattle.reg_tables.specs.Private.Errors.{database_fails};
 ghost use Rattle.reg_tables.specs.Quiet.{IsIdle, IsStill, FindsThat};
 ghost use Rattle.reg_tables.specs.Private.Found.{AreNumbersFromOne, FindsAll};
 ghost use Rattle.reg_tables.specs.Rows.{deposit_table, first_column};
@@ -144,7 +144,7 @@ fn read_count<S: Alter>(conn: &mut Connection<S>) -> Result<Option<u32>, TableEr
     requires idle { IsIdle (state S.Store conn.old) }
     ensures counted { FindsThat result Counts (state S.Store conn.old) (state S.Store conn.new) }
     ensures few { IfOk result (λ found. IfSome found (λ count. count ≤ 999999)) }
-    ensures quiet { IsStill (state S.Store conn.old) (state S.Store conn.new) (fails result) }
+    ensures quiet { IsStill (state S.Store conn.old) (state S.Store conn.new) (database_fails result) }
 {
     let rows = read_numbers(conn)?;
     Ok(count_numbers(&rows))
@@ -156,7 +156,7 @@ fn read_numbers<S: Alter>(conn: &mut Connection<S>) -> Result<Vec<Row>, TableErr
         (state S.Store conn.old) (state S.Store conn.new) }
     ensures found { FindsThat result (λ db rows. AreNumbersFromOne db rows.items)
         (state S.Store conn.old) (state S.Store conn.new) }
-    ensures quiet { IsStill (state S.Store conn.old) (state S.Store conn.new) (fails result) }
+    ensures quiet { IsStill (state S.Store conn.old) (state S.Store conn.new) (database_fails result) }
 {
     query(conn, "SELECT number FROM deposits ORDER BY number", &[])
 }

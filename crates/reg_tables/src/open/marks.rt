@@ -4,7 +4,7 @@ ghost use Rattle.std.specs.Prelude.{◌≡◌, ◌↔◌, List, Bool, None, Some
 ghost use Rattle.std.specs.Prelude.{IfSome};
 ghost use Rattle.sqlite.specs.State.{HasCleanDisk};
 ghost use Rattle.sqlite.specs.Held.{state};
-ghost use Rattle.reg_tables.specs.Private.Errors.{fails};
+ghost use Rattle.reg_tables.specs.Private.Errors.{database_fails};
 ghost use Rattle.reg_tables.specs.Adoption.{FindsMarks, gives_up};
 ghost use Rattle.reg_tables.specs.Private.Found.{AreMarksInOrder};
 ghost use Rattle.reg_tables.specs.Quiet.{FindsThat, IsIdle, IsStill};
@@ -47,9 +47,9 @@ fn read_mark_rows<S: Alter>(conn: &mut Connection<S>) -> Result<Vec<Row>, TableE
     requires schema { HasCleanDisk (state S.Store conn.old) → HasMarkTable (state S.Store conn.old).now.schema }
     ensures found { FindsThat result (λ db rows. AreMarksInOrder db rows.items)
         (state S.Store conn.old) (state S.Store conn.new) }
-    ensures open { HasCleanDisk (state S.Store conn.new) → fails result ≡ false
+    ensures open { HasCleanDisk (state S.Store conn.new) → database_fails result ≡ false
         → IsTrue (state S.Store conn.new).is_open }
-    ensures quiet { IsStill (state S.Store conn.old) (state S.Store conn.new) (fails result) }
+    ensures quiet { IsStill (state S.Store conn.old) (state S.Store conn.new) (database_fails result) }
 {
     query(
         conn,

@@ -12,7 +12,7 @@ ghost use Rattle.sqlite.specs.State.{HasCleanDisk};
 ghost use Rattle.sqlite.specs.Held.{state};
 ghost use Rattle.reg_tables.specs.Quiet.{IsIdle, IsStill, FindsThat};
 ghost use Rattle.reg_tables.specs.Private.Found.{AreMetaByName, FindsAll};
-ghost use Rattle.reg_tables.specs.Private.Errors.{fails};
+ghost use Rattle.reg_tables.specs.Private.Errors.{database_fails};
 ghost use Rattle.reg_tables.specs.Rows.{columns_3};
 
 use crate::error::{AdoptError, TableError};
@@ -153,9 +153,9 @@ pub(crate) fn read_meta<S: Alter>(conn: &mut Connection<S>) -> Result<Vec<Row>, 
     ensures all { FindsAll result (λ db. map columns_3 (db.trees 0)) (state S.Store conn.old) (state S.Store conn.new) }
     ensures found { FindsThat result (λ db rows. AreMetaByName db rows.items)
         (state S.Store conn.old) (state S.Store conn.new) }
-    ensures open { HasCleanDisk (state S.Store conn.new) → fails result ≡ false
+    ensures open { HasCleanDisk (state S.Store conn.new) → database_fails result ≡ false
         → IsTrue (state S.Store conn.new).is_open }
-    ensures quiet { IsStill (state S.Store conn.old) (state S.Store conn.new) (fails result) }
+    ensures quiet { IsStill (state S.Store conn.old) (state S.Store conn.new) (database_fails result) }
 {
     query(conn, "SELECT name, num, body FROM meta ORDER BY name", &[])
 }

@@ -2,7 +2,7 @@
 
 ghost use Rattle.std.specs.Prelude.{◌≡◌, true, IfOk, IfSome};
 ghost use Rattle.sqlite.specs.Held.{state};
-ghost use Rattle.reg_tables.specs.Private.Errors.{fails};
+ghost use Rattle.reg_tables.specs.Private.Errors.{database_fails};
 ghost use Rattle.reg_tables.specs.Quiet.{IsIdle, IsStill};
 ghost use Rattle.reg_tables.specs.Private.Found.{FindsEqual, FindsIfEqual, FindsNoEqual};
 ghost use Rattle.reg_tables.specs.Private.Digests.{is_among};
@@ -28,7 +28,7 @@ pub(crate) fn read_equal<S: Alter>(
     ensures among { IfOk result (λ found. IfSome found (λ n. is_among n numbers.now ≡ true)) }
     ensures none { FindsNoEqual result numbers.now firm.now project.now bytes.now
         (state S.Store conn.old) (state S.Store conn.new) }
-    ensures quiet { IsStill (state S.Store conn.old) (state S.Store conn.new) (fails result) }
+    ensures quiet { IsStill (state S.Store conn.old) (state S.Store conn.new) (database_fails result) }
 {
     for number in numbers {
         if compare_deposit(conn, alloc, *number, firm, project, bytes)? {
@@ -50,7 +50,7 @@ fn compare_deposit<S: Alter>(
     requires idle { IsIdle (state S.Store conn.old) }
     ensures equal { FindsIfEqual result number firm.now project.now bytes.now
         (state S.Store conn.old) (state S.Store conn.new) }
-    ensures quiet { IsStill (state S.Store conn.old) (state S.Store conn.new) (fails result) }
+    ensures quiet { IsStill (state S.Store conn.old) (state S.Store conn.new) (database_fails result) }
 {
     let kept = read_deposit(conn, alloc, number)?;
     Ok(is_equal(&kept, firm, project, bytes))

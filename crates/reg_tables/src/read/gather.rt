@@ -8,7 +8,7 @@ ghost use Rattle.sqlite.specs.Held.{state};
 ghost use Rattle.reg_tables.specs.Private.Meaning.{IsPlainText};
 ghost use Rattle.reg_tables.specs.Quiet.{IsIdle, IsStill, StaysIfOpen};
 ghost use Rattle.reg_tables.specs.Private.Found.{TakesEachShown, TakesShown};
-ghost use Rattle.reg_tables.specs.Private.Errors.{fails};
+ghost use Rattle.reg_tables.specs.Private.Errors.{database_fails};
 
 use crate::error::TableError;
 use crate::read::queries::refusal;
@@ -28,7 +28,7 @@ pub(crate) fn take_shown<S: Alter, G: Gather>(
     requires empty { G.holds into.old into.old [] }
     ensures shown { TakesShown result sql.now (bound params.now) (G.holds into.old into.new)
         (state S.Store conn.old) (state S.Store conn.new) }
-    ensures quiet { IsStill (state S.Store conn.old) (state S.Store conn.new) (fails result) }
+    ensures quiet { IsStill (state S.Store conn.old) (state S.Store conn.new) (database_fails result) }
 {
     match take_each(conn, sql, params, into) {
         Ok(taken) => taken,

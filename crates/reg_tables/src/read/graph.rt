@@ -2,7 +2,7 @@
 
 ghost use Rattle.std.specs.Prelude.{◌≡◌, IfOk};
 ghost use Rattle.sqlite.specs.Held.{state};
-ghost use Rattle.reg_tables.specs.Private.Errors.{fails};
+ghost use Rattle.reg_tables.specs.Private.Errors.{database_fails};
 ghost use Rattle.reg_tables.specs.Private.Methods.{HasSteps, HoldsSteps};
 ghost use Rattle.reg_tables.specs.Quiet.{FindsThat, IsIdle, IsStill};
 ghost use Rattle.reg_tables.specs.Rows.{step_table};
@@ -26,7 +26,7 @@ pub(crate) fn read_graph<S: Alter>(
     ensures rows { IfOk result (λ graph. graph.rows ≡ rows) }
     ensures steps { FindsThat result (λ db graph. HasSteps number (step_table db.trees) graph.steps)
         (state S.Store conn.old) (state S.Store conn.new) }
-    ensures quiet { IsStill (state S.Store conn.old) (state S.Store conn.new) (fails result) }
+    ensures quiet { IsStill (state S.Store conn.old) (state S.Store conn.new) (database_fails result) }
 {
     let steps = read_steps(conn, alloc, number)?;
     graph_of(rows, steps)
@@ -43,7 +43,7 @@ fn read_steps<S: Alter>(
         (state S.Store conn.old) (state S.Store conn.new) }
     ensures held { FindsThat result (λ db read. HoldsSteps db number read.items)
         (state S.Store conn.old) (state S.Store conn.new) }
-    ensures quiet { IsStill (state S.Store conn.old) (state S.Store conn.new) (fails result) }
+    ensures quiet { IsStill (state S.Store conn.old) (state S.Store conn.new) (database_fails result) }
 {
     let mut steps = KeptSteps {
         steps: Vec::new(alloc),

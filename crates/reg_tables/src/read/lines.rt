@@ -4,7 +4,7 @@ ghost use Rattle.std.specs.Prelude.{All, IfOk};
 ghost use Rattle.reg_store.specs.Reading.{HasKind};
 ghost use Rattle.sqlite.specs.Held.{state};
 ghost use Rattle.reg_tables.specs.Quiet.{IsIdle, IsStill, FindsThat};
-ghost use Rattle.reg_tables.specs.Private.Errors.{fails};
+ghost use Rattle.reg_tables.specs.Private.Errors.{database_fails};
 ghost use Rattle.reg_tables.specs.Private.Methods.{AreRowsAt, HoldsLines};
 
 use crate::error::TableError;
@@ -26,7 +26,7 @@ pub(crate) fn read_lines<S: Alter>(
     ensures held { FindsThat result (λ db lines. HoldsLines db number lines.items)
         (state S.Store conn.old) (state S.Store conn.new) }
     ensures kinds { IfOk result (λ lines. All HasKind lines.items) }
-    ensures quiet { IsStill (state S.Store conn.old) (state S.Store conn.new) (fails result) }
+    ensures quiet { IsStill (state S.Store conn.old) (state S.Store conn.new) (database_fails result) }
 {
     let mut lines = KeptLines {
         lines: Vec::new(alloc),

@@ -6,7 +6,7 @@ ghost use Rattle.sqlite.specs.State.{HasCleanDisk, Survives, IsUnchanged};
 ghost use Rattle.sqlite.specs.Held.{state};
 ghost use Rattle.reg_tables.specs.Quiet.{IsIdle, IsSettled, IsStill, StaysIfOpen};
 ghost use Rattle.reg_tables.specs.Private.Found.{FindsShown, OnlyShows};
-ghost use Rattle.reg_tables.specs.Private.Errors.{fails, is_store};
+ghost use Rattle.reg_tables.specs.Private.Errors.{database_fails, is_of_database};
 
 use crate::error::{TableError, is_memory};
 use sqlite::types::ValueRef;
@@ -21,9 +21,9 @@ pub(crate) fn query<S: Alter>(
     requires plain { OnlyShows sql.now (state S.Store conn.old) }
     requires idle { IsIdle (state S.Store conn.old) }
     ensures shown { FindsShown result sql.now (bound params.now) (state S.Store conn.old) (state S.Store conn.new) }
-    ensures open { HasCleanDisk (state S.Store conn.new) → fails result ≡ false
+    ensures open { HasCleanDisk (state S.Store conn.new) → database_fails result ≡ false
         → IsTrue (state S.Store conn.new).is_open }
-    ensures quiet { IsStill (state S.Store conn.old) (state S.Store conn.new) (fails result) }
+    ensures quiet { IsStill (state S.Store conn.old) (state S.Store conn.new) (database_fails result) }
 {
     match ask(conn, sql, params) {
         Ok(rows) => Ok(rows),
@@ -51,7 +51,7 @@ fn ask<S: Alter>(
 #[tactic(auto, using(crate::proofs::QueryLemmas::survives_none))]
 pub(crate) fn refusal<S: Alter>(conn: &mut Connection<S>, error: &Error) -> TableError
     requires settled { HasCleanDisk (state S.Store conn.old) → IsSettled (state S.Store conn.old) }
-    ensures known { HasCleanDisk (state S.Store conn.new) → is_store result ≡ false
+    ensures known { HasCleanDisk (state S.Store conn.new) → is_of_database result ≡ false
         → IsUnchanged (state S.Store conn.old) (state S.Store conn.new) }
     ensures still { StaysIfOpen (state S.Store conn.old) (state S.Store conn.new) }
     ensures mode { conn.old.in_transaction ≡ false → conn.new.in_transaction ≡ false }

@@ -5,7 +5,7 @@ ghost use Rattle.sqlite.specs.Schema.{Schema};
 ghost use Rattle.sqlite.specs.Effect.{Database};
 ghost use Rattle.sqlite.specs.State.{HasCleanDisk, Survives};
 ghost use Rattle.sqlite.specs.Held.{state};
-ghost use Rattle.reg_tables.specs.Private.Errors.{fails};
+ghost use Rattle.reg_tables.specs.Private.Errors.{database_fails};
 ghost use Rattle.reg_tables.specs.Private.Commits.{MakesIfOk, CommitsAll, Makes, UndoesIfOpen, UndoesUnlessFailed};
 ghost use Rattle.reg_tables.specs.Private.Commits.{WasOpenIfOpen};
 ghost use Rattle.reg_tables.specs.Private.Inside.{ChangesInside, CommitsNothing, HasSchema, HasTransaction, state_in};
@@ -31,18 +31,18 @@ pub(crate) fn change_tables<S: Alter, C: Change>(
     ensures settled { CommitsAll result (state S.Store conn.new) }
 
     // What a refusal says of the connection.
-    ensures was_open { HasCleanDisk (state S.Store conn.new) → fails result ≡ false
+    ensures was_open { HasCleanDisk (state S.Store conn.new) → database_fails result ≡ false
         → OnErr result (IsTrue (state S.Store conn.old).is_open) }
     ensures undone { UndoesUnlessFailed result (state S.Store conn.old) (state S.Store conn.new) }
     ensures still { OnErr result (StaysIfOpen (state S.Store conn.old) (state S.Store conn.new)) }
 
     // Transaction and connection in either case, and what a crash may leave.
     ensures mode { conn.new.in_transaction ≡ false }
-    ensures open { HasCleanDisk (state S.Store conn.new) → fails result ≡ false
+    ensures open { HasCleanDisk (state S.Store conn.new) → database_fails result ≡ false
         → IsTrue (state S.Store conn.new).is_open }
     ensures crash { Survives (state S.Store conn.old) (state S.Store conn.new)
         (ChangesOf (C.makes change.now) (state S.Store conn.old)) }
-    ensures quiet { fails result ≡ false
+    ensures quiet { database_fails result ≡ false
         → OnErr result (Survives (state S.Store conn.old) (state S.Store conn.new) (λ _. ⊥)) }
 {
     match commit(conn, change) {

@@ -5,7 +5,7 @@ use Rattle.sqlite.specs.State.{HasCleanDisk, Survives}
 use Rattle.sqlite.specs.Held.{state}
 use Rattle.reg_store.specs.Deposit.{Deposit, sents, new_deposit}
 use Rattle.reg_store.specs.Sent.{Sent}
-use Rattle.reg_tables.specs.Private.Errors.{is_store, keep_error}
+use Rattle.reg_tables.specs.Private.Errors.{is_of_database, keep_error}
 use Rattle.reg_store.specs.Fit.{IsFileOf, kept_rows}
 use Rattle.reg_tables.proofs.QuietLaws.{clean_before}
 use Rattle.reg_tables.specs.Rows.{deposit_from}
@@ -42,7 +42,7 @@ invariant_of-self-in-Err-clause-kept g c works clean =
     let old = state g.S.Store keep.connection in
     let new = state g.S.Store c.add_checked-added.new.conn in
     let first = clean_before old new c.add_checked-added.ensures.crash clean in
-    let bare : is_store c.in-Err.error ≡ false = sym c.answer.ensures.failing ∙ works in
+    let bare : is_of_database c.in-Err.error ≡ false = sym c.answer.ensures.failing ∙ works in
     let was = keep.kept c.requires.working first in
     let undone = c.in-Err.ensures.undone clean bare in
     subst (λ n. ∥ KeepsRegister new keep.dictionary n ∥₁) (sym c.make_room-room.ensures.same) (keeps_same {old = old} {new = new} was (c.in-Err.ensures.open clean bare) (undone.0 ∙ settled_of was) undone.1)
@@ -53,7 +53,7 @@ invariant_of-self-in-Err-clause-agrees g c works clean =
     let old = state g.S.Store keep.connection in
     let new = state g.S.Store c.add_checked-added.new.conn in
     let first = clean_before old new c.add_checked-added.ensures.crash clean in
-    let bare : is_store c.in-Err.error ≡ false = sym c.answer.ensures.failing ∙ works in
+    let bare : is_of_database c.in-Err.error ≡ false = sym c.answer.ensures.failing ∙ works in
     subst (λ (db : Database). Agrees c.make_room-room.new.self keep.dictionary (deposits_in db.trees)) (sym (c.in-Err.ensures.undone clean bare).1)
     (c.make_room-room.ensures.agrees keep.dictionary (deposits_in old.committed.trees) (keep.agrees c.requires.working first))
 

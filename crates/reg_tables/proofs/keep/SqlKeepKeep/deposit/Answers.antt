@@ -3,7 +3,7 @@ use Rattle.sqlite.specs.Held.{state}
 use Rattle.reg_tables.specs.declared.error.TableError.{TableError}
 use Rattle.reg_store.specs.declared.keep.Kept.{Kept}
 use Rattle.reg_store.specs.Keep.{sent_of}
-use Rattle.reg_tables.specs.Private.Errors.{fails}
+use Rattle.reg_tables.specs.Private.Errors.{database_fails}
 use Rattle.reg_tables.specs.Private.Digests.{IsRowOf}
 use Rattle.reg_tables.specs.Quiet.{IsStill}
 use Rattle.reg_tables.proofs.QuietLaws.{clean_before}
@@ -33,7 +33,7 @@ returns-clause-leaves g c =
     let old = state g.S.Store c.args.self.now.connection in
     let new = state g.S.Store c.read_deposit-found.new.conn in
     let given : c.answer.result ≡ Ok c.in_ok-kept.kept = search (rules, c.in_ok-kept.was) in
-    let well = ap fails (found_of c.read_deposit-found.result c.in_ok-kept.kept (sym c.answer.ensures.answer ∙ given)) in
+    let well = ap database_fails (found_of c.read_deposit-found.result c.in_ok-kept.kept (sym c.answer.ensures.answer ∙ given)) in
     let still = subst (IsStill old new) well c.read_deposit-found.ensures.quiet in
     reads_still (λ k. state g.S.Store k.connection) (λ k. k.dictionary) 999999 (λ k. k.has_failed) _ _ (Ok (record { firm = c.in_ok-kept.kept.firm; project = c.in_ok-kept.kept.project; embargo = c.in_ok-kept.kept.embargo; bytes = c.in_ok-kept.kept.bytes; withdrawn = c.is_withdrawn.result })) still refl (c.answer.ensures.failing ∙ well) tt
 

@@ -3,7 +3,7 @@ use Rattle.sqlite.specs.Effect.{Database}
 use Rattle.sqlite.specs.State.{HasCleanDisk}
 use Rattle.sqlite.specs.Held.{state}
 use Rattle.reg_store.specs.Deposit.{Deposit, with_withdrawn}
-use Rattle.reg_tables.specs.Private.Errors.{is_store, keep_error}
+use Rattle.reg_tables.specs.Private.Errors.{is_of_database, keep_error}
 use Rattle.reg_tables.specs.Private.Inserts.{AddsMark}
 use Rattle.reg_tables.proofs.KeepLaws.{HoldsNext, BecomesNext, counted_at, crash_at, keeps_same, mark_next, next_at}
 use Rattle.reg_tables.proofs.KeepLaws.{schema_at, settled_of, text_committed, whole_next}
@@ -33,7 +33,7 @@ invariant_of-self-in-Err-clause-kept g c works clean =
     let old = state g.S.Store keep.connection in
     let new = state g.S.Store c.change_tables.new.conn in
     let first = clean_before old new c.change_tables.ensures.crash clean in
-    let bare : is_store c.in-Err.error ≡ false = sym c.answer.ensures.failing ∙ works in
+    let bare : is_of_database c.in-Err.error ≡ false = sym c.answer.ensures.failing ∙ works in
     let was = keep.kept c.requires.working first in
     let undone = c.in-Err.ensures.undone clean bare in
     keeps_same {old = old} {new = new} was (c.in-Err.ensures.open clean bare) (undone.0 ∙ settled_of was) undone.1
@@ -43,7 +43,7 @@ invariant_of-self-in-Err-clause-agrees g c works clean =
     let keep = c.args.self.now in
     let old = state g.S.Store keep.connection in
     let first = clean_before old (state g.S.Store c.change_tables.new.conn) c.change_tables.ensures.crash clean in
-    let bare : is_store c.in-Err.error ≡ false = sym c.answer.ensures.failing ∙ works in
+    let bare : is_of_database c.in-Err.error ≡ false = sym c.answer.ensures.failing ∙ works in
     subst (λ (db : Database). Agrees keep.memory keep.dictionary (deposits_in db.trees)) (sym (c.in-Err.ensures.undone clean bare).1) (keep.agrees c.requires.working first)
 
 -- ---- where the mark was set

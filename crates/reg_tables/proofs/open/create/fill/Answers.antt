@@ -2,7 +2,7 @@ use Rattle.std.proofs.Common.{rules, ◌≡◌, refl, sym, ap}
 use Rattle.sqlite.specs.Held.{state}
 use Rattle.sqlite.proofs.StateLemmas.{survives_weaker}
 use Rattle.reg_tables.specs.declared.error.TableError.TheVariants.{NoMemory}
-use Rattle.reg_tables.specs.Private.Errors.{is_store}
+use Rattle.reg_tables.specs.Private.Errors.{is_of_database}
 use Rattle.reg_tables.proofs.CreatesLaws.{new_empty}
 use Rattle.reg_tables.specs.Tables.{no_schema}
 use Rattle.reg_tables.proofs.CreateLemmas.{making_left}
@@ -59,7 +59,7 @@ returns-in-Ok-clause-made g c =
 pub returns-in-Err-NoMemory-clause-left : goal.returns-in-Err-NoMemory-clause-left
 returns-in-Err-NoMemory-clause-left g c =
     let is : c.in-Err-NoMemory.field-0 ≡ NoMemory = search rules in
-    survives_weaker (state g.S.Store c.args.conn.now) (state g.S.Store c.change_tables.new.conn) _ _ (λ _ _ none. absurd none) (c.in-Err-NoMemory.ensures.quiet (ap is_store is))
+    survives_weaker (state g.S.Store c.args.conn.now) (state g.S.Store c.change_tables.new.conn) _ _ (λ _ _ none. absurd none) (c.in-Err-NoMemory.ensures.quiet (ap is_of_database is))
 
 pub returns-in-Err-Store-clause-left : goal.returns-in-Err-Store-clause-left
 returns-in-Err-Store-clause-left g c =

@@ -4,7 +4,7 @@ use Rattle.ags_links.specs.declared.families.Family.{Family}
 use Rattle.ags_links.proofs.Heading.{places_named}
 use Rattle.ags_links.proofs.Kept.{texts}
 use Rattle.ags_links.proofs.RowLemmas.{one_at, read_at}
-use Rattle.ags_links.proofs.parents.places_at.Goals as goal
+use Rattle.ags_links.proofs.parents.places_in_group.Goals as goal
 
 pub returns-clause-places : goal.returns-clause-places
 returns-clause-places c = λ family at.
