@@ -7,10 +7,10 @@ use Rattle.ags_rows.specs.Parts.{parts_at}
 use Rattle.ags_links.specs.Lookups.{Lookup, FindsAsked, found, Finds, HasOneText, AreFirstWith}
 use Rattle.ags_rows.specs.Collecting.{At}
 use Rattle.ags_links.specs.DataRows.{DataRow, RowsRelate, ListsRows, entry_of}
-use Rattle.ags_links.specs.Families.{HasText, HasKeyText, HasFileSet}
+use Rattle.ags_links.specs.Families.{HasText, HasEntries, HasKeyText, HasFileSet}
 use Rattle.ags_links.specs.Keys.{key_of, HasKeyOf, IsFirstOfKey, AreFirstsOfKeys}
 use Rattle.ags_links.specs.KeyTexts.{key_text}
-use Rattle.ags_links.specs.ParentRows.{AreLinkHeadings, HasParentEntries}
+use Rattle.ags_links.specs.ParentRows.{AreLinkHeadings}
 use Rattle.ags_links.specs.Parents.{IsParentRow}
 use Rattle.ags_links.specs.RecordLinks.{Names}
 use Rattle.ags_links.specs.Steps.{IsFileRow}
@@ -18,6 +18,10 @@ use Rattle.ags_links.proofs.Members.{contains_head, contains_tail, contains_cons
 use Rattle.ags_links.proofs.Rising.{first_is_least}
 use Rattle.ags_links.proofs.RowLemmas.{one_at, some_at}
 use Rattle.ags_links.proofs.Spelled.{key_text_same}
+
+-- it is a row of the group's parent group, and the text its entries under the headings
+abbrev pub HasParentEntries : Entries → List ℕ → List (List ℕ) → DataRow → List ℕ → Type 0
+HasParentEntries entries group headings r text = (parent_of entries group ≡ Some r.group) × HasEntries headings r text
 
 -- ---- lists under headings
 

@@ -15,12 +15,13 @@ use Rattle.ags_links.specs.declared.placed.PlacedRow.{PlacedRow}
 use Rattle.ags_rows.specs.Collecting.{At}
 use Rattle.ags_links.specs.KeyTexts.{key_text}
 use Rattle.ags_links.specs.Lookups.{Lookup, rows_between, IsSpanOf}
-use Rattle.ags_links.specs.ParentRows.{AreListed, AreParents, AreParentLists, AreSpansOf, HasUsers, IsAskedOf, IsLinkText, IsLookupAt, IsParentList, IsParentSpan, part_of, text_at}
+use Rattle.ags_links.specs.ParentRows.{AreListed, AreParentLists, AreSpansOf, HasUsers, IsAskedOf, IsLinkText, IsLookupAt, IsParentList, IsParentSpan, part_of, text_at}
 use Rattle.ags_links.specs.Placing.{IsPlaced, row_of}
 use Rattle.ags_links.proofs.Answering.{parents_listed}
 use Rattle.ags_links.proofs.Heading.{entries_at}
 use Rattle.ags_links.proofs.Kept.{kept_more, kept_next, kept_none, placed_at}
 use Rattle.ags_links.proofs.RowLemmas.{at_cases, one_at, some_at}
+use Rattle.ags_links.proofs.Sharing.{AreParents}
 use Rattle.ags_rows.proofs.Lemmas.{at_map}
 
 -- the rows of a span are those between its ends

@@ -14,15 +14,32 @@ use Rattle.ags_links.specs.declared.parents.LinkPlaces.{LinkPlaces}
 use Rattle.ags_rows.specs.Collecting.{At}
 use Rattle.ags_links.specs.DataRows.{DataRow}
 use Rattle.ags_links.specs.Families.{AreKept, AreFamilies, HasText, HasGroupName, HasEntries, HasAmong}
-use Rattle.ags_links.specs.ParentRows.{AreLinkHeadings, AreParentLinks, AreLookups, AreNumbers, HasParentEntries, IsParentLinks, IsAskedOf, IsParentIndex, IsPlacedAt, AreParents, ParentLinksTo, link_names, texts_in}
+use Rattle.ags_links.specs.ParentRows.{AreLinkHeadings, AreParentLinks, AreLookups, AreNumbers, IsParentLinks, IsAskedOf, IsPlacedAt, ParentLinksTo, link_names, texts_in}
 use Rattle.ags_links.specs.Placing.{row_of}
 use Rattle.ags_links.specs.declared.placed.PlacedRow.{PlacedRow}
+use Rattle.ags_links.proofs.Answering.{HasParentEntries}
 use Rattle.ags_links.proofs.Finding.{asked_same}
 use Rattle.ags_links.proofs.Heading.{at_place}
 use Rattle.ags_links.proofs.Kept.{found_below, found_rising}
 use Rattle.ags_links.proofs.Rising.{rising_nil}
 use Rattle.ags_links.proofs.RowLemmas.{map_at, one_at, read_at, some_at}
 use Rattle.ags_links.proofs.Spelled.{key_text_same}
+
+-- the rows of the group's parent group are found by their entries under its link headings, where some row asks for them
+pub record IsParentIndex (entries : Entries) (rows : List PlacedRow) (of_groups : List LinkPlaces)
+    (lookups : List Lookup) (group : Group) (links : LinkPlaces) : Type 0 where
+  pub names : List (List ℕ)
+  pub lookup : Lookup
+  pub stands : At lookups links.lookup lookup
+  pub places : links.places.items ≡ map (place_in group.headings) names
+  pub headings : (n : ℕ) (s : DataRow) → At (map row_of rows) n s → parent_of entries group.name ≡ Some s.group
+      → AreLinkHeadings entries s.group group.headings names
+  pub finds : FindsAsked lookup (IsAskedOf rows of_groups links.lookup)
+      (HasText (map row_of rows) (HasParentEntries entries group.name names))
+
+abbrev pub AreParents : Entries → List PlacedRow → List Group → List LinkPlaces → List Lookup → Type 0
+AreParents entries rows groups of_groups lookups =
+    AreKept groups of_groups (λ place. IsParentIndex entries rows of_groups lookups)
 
 -- ---- links with one text are the same links
 

@@ -163,26 +163,6 @@ IsPlacedAt families texts place links kept =
     → kept.places.items ≡ map (place_in family.headings) (link_names links))
     × (place_in texts links.text.items ≡ Some kept.lookup)
 
--- it is a row of the group's parent group, and the text its entries under the headings
-abbrev pub HasParentEntries : Entries → List ℕ → List (List ℕ) → DataRow → List ℕ → Type 0
-HasParentEntries entries group headings r text = (parent_of entries group ≡ Some r.group) × HasEntries headings r text
-
--- the rows of the group's parent group are found by their entries under its link headings, where some row asks for them
-pub record IsParentIndex (entries : Entries) (rows : List PlacedRow) (of_groups : List LinkPlaces)
-    (lookups : List Lookup) (group : Group) (links : LinkPlaces) : Type 0 where
-  pub names : List (List ℕ)
-  pub lookup : Lookup
-  pub stands : At lookups links.lookup lookup
-  pub places : links.places.items ≡ map (place_in group.headings) names
-  pub headings : (n : ℕ) (s : DataRow) → At (map row_of rows) n s → parent_of entries group.name ≡ Some s.group
-      → AreLinkHeadings entries s.group group.headings names
-  pub finds : FindsAsked lookup (IsAskedOf rows of_groups links.lookup)
-      (HasText (map row_of rows) (HasParentEntries entries group.name names))
-
-abbrev pub AreParents : Entries → List PlacedRow → List Group → List LinkPlaces → List Lookup → Type 0
-AreParents entries rows groups of_groups lookups =
-    AreKept groups of_groups (λ place. IsParentIndex entries rows of_groups lookups)
-
 -- the span is where the look-up of the row's group has the row's entries under its link headings
 abbrev pub IsParentSpan : List LinkPlaces → List Lookup → PlacedRow → Span → Type 0
 IsParentSpan of_groups lookups row span =
