@@ -17,7 +17,7 @@ use Rattle.ags_links.specs.declared.parents.ParentLists.{ParentLists}
 use Rattle.ags_links.specs.declared.placed.PlacedRow.{PlacedRow}
 use Rattle.ags_rows.specs.Collecting.{At}
 use Rattle.ags_links.specs.DataRows.{DataRow, RowsRelate, ListsRows}
-use Rattle.ags_links.specs.Families.{AreKept, HasText, HasEntries, HasAmong}
+use Rattle.ags_links.specs.Families.{AreKept, HasEntries, HasAmong}
 use Rattle.ags_links.specs.KeyTexts.{key_text}
 use Rattle.ags_links.specs.Parents.{IsParentRow}
 use Rattle.ags_links.specs.Placing.{row_of, fields_at}
