@@ -10,7 +10,8 @@ use Rattle.reg_policy.specs.declared.callers.Caller.{Caller}
 use Rattle.reg_policy.specs.declared.subject.Decision.{Decision}
 use Rattle.reg_policy.specs.declared.subject.Verb.TheVariants as verbs
 use Rattle.reg_store.specs.Sent.{Sent, is_repeat}
-use Rattle.reg_store.specs.Deposit.{Deposit, sents, sents_with_withdrawn, new_deposit}
+use Rattle.reg_store.specs.Deposit.{Deposit, sents, new_deposit}
+use Rattle.reg_store.proofs.DepositLemmas.{sents_with_withdrawn}
 use Rattle.reg_desk.specs.Asked.{Asked, deposit, withdraw}
 use Rattle.reg_desk.specs.declared.answer.Answer.{Answer}
 use Rattle.reg_desk.specs.declared.answer.Answer.TheVariants.{NoMemory, Receipt, StoreFailed}

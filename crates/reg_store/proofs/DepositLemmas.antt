@@ -11,6 +11,13 @@ use Rattle.reg_store.specs.Deposit.{Deposit, sents, with_withdrawn}
 pub length_sents : (list : List Deposit) → length (sents list) ≡ length list
 length_sents list = length-map list (λ d. d.sent)
 
+-- a withdrawal leaves what was sent
+pub sents_with_withdrawn : (n : ℕ) (list : List Deposit) → sents (with_withdrawn n list) ≡ sents list
+sents_with_withdrawn n [] = refl
+sents_with_withdrawn zero (d ∷ more) = refl
+sents_with_withdrawn (suc zero) (d ∷ more) = refl
+sents_with_withdrawn (suc (suc n)) (d ∷ more) = ap (λ (rest : List Sent). d.sent ∷ rest) (sents_with_withdrawn (suc n) more)
+
 -- what was sent of a deposit is at its place
 pub sent_at : (list : List Deposit) (k : ℕ) (d : Deposit) → slice_get list k ≡ Some d → slice_get (sents list) k ≡ Some d.sent
 sent_at list k d at = slice_get-map (λ (x : Deposit). x.sent) list k ∙ ap (option_map (λ (x : Deposit). x.sent)) at

@@ -16,7 +16,8 @@ use Rattle.ags_check.proofs.Lemmas.{one_list, one_clean_file}
 use Rattle.reg_store.specs.declared.keep.Kept.{Kept}
 use Rattle.reg_store.specs.Keep.{OfDeposit, deposit_of, sent_of}
 use Rattle.reg_store.specs.Sent.{Sent, numbers_from}
-use Rattle.reg_store.specs.Deposit.{Deposit, sents, as_withdrawn, with_withdrawn, sents_with_withdrawn}
+use Rattle.reg_store.specs.Deposit.{Deposit, sents, as_withdrawn, with_withdrawn}
+use Rattle.reg_store.proofs.DepositLemmas.{sents_with_withdrawn}
 use Rattle.reg_store.specs.Fit.{IsFit, IsFileOf}
 use Rattle.reg_store.specs.PlainLaws.{fit_of}
 use Rattle.reg_store.specs.Reading.{OfFile}

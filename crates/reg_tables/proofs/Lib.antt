@@ -17,6 +17,7 @@ pub mod PutLaws
 pub mod QuietLaws
 pub mod ReadsLaws
 pub mod ReadsStepsLaws
+pub mod ApartLaws
 pub mod RegisterLaws
 pub mod ShowsLaws
 pub mod ReadBackLaws

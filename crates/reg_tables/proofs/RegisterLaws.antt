@@ -14,7 +14,7 @@ use Rattle.reg_tables.specs.Rows.{given_deposit, deposit_table, IsMore, columns_
 use Rattle.reg_tables.specs.Rows.{placed_rows, line_rows, step_pair, step_rows}
 use Rattle.reg_tables.specs.Private.Inserts.{AddsFile}
 use Rattle.reg_store.specs.Fit.{IsFileOf, IsNamed, kept_rows}
-use Rattle.reg_store.specs.ApartLaws.{apart_push}
+use Rattle.reg_tables.proofs.ApartLaws.{apart_push}
 use Rattle.reg_tables.specs.Register.{meta_columns, file_lines, file_steps, HoldsSent}
 use Rattle.reg_tables.proofs.PushesLaws.{deposits_push, own_lines, other_lines, own_steps, other_steps, table_push}
 

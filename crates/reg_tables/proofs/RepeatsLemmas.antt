@@ -25,7 +25,7 @@ use Rattle.ags_dict.specs.Entries.{Entries}
 use Rattle.reg_tables.specs.declared.error.TableError.{TableError}
 use Rattle.reg_tables.specs.declared.memory.digests.Digests.{Digests}
 use Rattle.reg_store.specs.Apart.{AreApart}
-use Rattle.reg_store.specs.ApartLaws.{none_at, parts_of}
+use Rattle.reg_tables.proofs.ApartLaws.{none_at, parts_of}
 use Rattle.reg_store.specs.Sent.{Sent, is_repeat, number_of}
 use Rattle.reg_store.specs.Deposit.{sents}
 use Rattle.reg_tables.specs.Private.Digests.{AddsNumber, AreBelow, AreDigested, HasEqual, HasNoEqual, HoldsDigests, IsRowOf, digest_of, is_among, numbers_under, own_digest}

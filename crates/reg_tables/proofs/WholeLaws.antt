@@ -13,7 +13,7 @@ use Rattle.reg_store.specs.Sent.{Sent, is_repeat}
 use Rattle.reg_tables.specs.declared.schema.format.Format.{Format}
 use Rattle.reg_tables.specs.Tables.{format_number, schema_of}
 use Rattle.reg_store.specs.Fit.{IsFileOf, IsNamed}
-use Rattle.reg_store.specs.ApartLaws.{apart_all, apart_pair}
+use Rattle.reg_tables.proofs.ApartLaws.{apart_all, apart_pair}
 use Rattle.reg_tables.specs.Rows.{columns_3, columns_5, deposit_table, given_deposit, line_table, step_table, rows_under, first_column, has_number}
 use Rattle.reg_tables.specs.Register.{file_lines, file_steps, HoldsSent}
 use Rattle.reg_tables.proofs.ShowsLaws.{row_of_number}
