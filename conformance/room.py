@@ -5,18 +5,18 @@ usage: conformance/room.py PROGRAM [MB..]      the last line is 'N passed, M fai
        conformance/room.py PROGRAM --measure   the address space that registers take, for the constants of
                                                crates/reg_tables/src/memory/room.rt
 
-Under each limit of address space (48 to 256 MB where none is named) `serve` is given deposits of a kind until one is
-answered `out of memory`: of 1 kB, of 1 MB, of 20 kB with many steps, and of 50 kB with many sets of KEY headings. The
-listing goes on. Then, under the same limit, a start lists as many deposits as there were receipts, draws the first one
-whole, and takes a deposit more or answers `out of memory`; a second server takes what it may, and a start after that
-lists what has a receipt. Of small deposits no less than half of the limit is used, of others no less than a third: the
-least limit under which the register opens is printed. What is said above three quarters is said once. The same for
-`init` with a dictionary, and for `migrate`."""
+Under each limit of address space (48 MB to 1 GiB where none is named) a server is given deposits of a kind until one is
+answered `out of memory`: of 1 kB, of 1 MB, of 20 kB with many steps, and of 50 kB with many sets of KEY headings. It then
+lists them. A second server under the same limit lists what has a receipt, draws the first deposit whole, and takes what
+it may. After it a command takes a deposit more or answers `out of memory`, and another lists what has a receipt. Of
+small deposits no less than half of the limit is used, of others no less than a third: under that part no start opens the
+register. What is said above three quarters is said once. The same for `init` with a dictionary, and for `migrate`."""
 import os
 import resource
 import sqlite3
 import sys
 import tempfile
+import threading
 sys.dont_write_bytecode = True
 sys.path.insert(0, os.path.join(os.path.dirname(os.path.abspath(__file__)), "..", "bench"))
 import costly  # noqa: E402
@@ -27,6 +27,7 @@ from servers import NEARLY_FULL, asking, head, post, sample  # noqa: E402
 
 MB = 1 << 20
 LISTING = head(b"/v1/projects/N1/deposits", [])
+FIRST = head(b"/v1/projects/N1/deposits/1", [])
 # As a fault of the start, and as the answer of the register.
 OUT_OF_MEMORY = (b"", b"groundreg: out of memory\n", 5)
 NO_MEMORY = (OUT_OF_MEMORY, (b"out of memory\n", b"", 5))
@@ -45,7 +46,7 @@ def renamed(text):
 # The files of each kind, by number, and the limits in MB under which it is tried where none is named.
 KINDS = {"1 kB": small, "1 MB": renamed(files.deep(MB)), "steps": renamed(files.steps(20_000)),
          "sets": renamed(costly.subsets_without_findings(50_000))}
-LIMITS = {"1 kB": (48, 96), "1 MB": (48, 96, 256), "steps": (48, 96), "sets": (48, 96)}
+LIMITS = {"1 kB": (48, 96, 1024), "1 MB": (48, 96, 1024), "steps": (48, 96, 1024), "sets": (48, 96, 1024)}
 
 
 def limit_of(size):
@@ -55,6 +56,8 @@ def limit_of(size):
 
 class Place(servers.Place):
     """A place whose starts are under a limit of so many bytes."""
+
+    patience = 600
 
     def __init__(self, program, folder, limit, dictionary=None):
         for name in os.listdir(folder):
@@ -70,65 +73,59 @@ class Place(servers.Place):
         self.is_nearly_full = said.startswith(NEARLY_FULL)
         return out, said.removeprefix(NEARLY_FULL), status
 
-    def least(self, *words):
-        """The least limit in MB under which this start ends with 0."""
-        low, high = 4, self.limit // MB
-        while low + 1 < high:
-            middle = (low + high) // 2
-            out, said, status = self.limited(*words, limit=middle * MB)
-            low, high = (low, middle) if status == 0 else (middle, high)
-        return high
 
-
-def filled(place, file_of):
-    """The files that a server took until it was out of memory, what it answered to a listing then, and what it said."""
-    taken, listed = [], b""
+def filled(place, file_of, held=()):
+    """What a server under the limit does: it lists as many deposits as are held, draws the first of them, and takes
+    files until it is out of memory. The files that it took, its answers to these requests and to a last listing, and
+    what it said."""
+    taken = []
     with place.serve(None, preexec_fn=limit_of(place.limit)) as server:
+        # The lines that it prints are read, or it would wait once the pipe is full.
+        threading.Thread(target=server.process.stdout.read, daemon=True).start()
+        first = server.ask(LISTING), server.ask(FIRST) if held else b""
         while True:
-            data = file_of(len(taken))
-            reply = server.ask(post(b"deposits", data))
-            if b" 200 " not in reply[:16]:
+            data = file_of(len(held) + len(taken))
+            refused = server.ask(post(b"deposits", data))
+            if b" 200 " not in refused[:16]:
                 break
             taken.append(data)
-        listed = server.ask(LISTING)
+        last = server.ask(LISTING)
         server.process.terminate()
-        return taken, reply, listed, server.rest()[1]
+        return taken, first, refused, last, server.process.stderr.read()
 
 
 def try_kind(place, kind, name):
-    file_of = KINDS[kind]
-    taken, reply, listed, told = filled(place, file_of)
-    place.check(f"{name}: what is refused", b"HTTP/1.1 503", reply[:12])
-    place.check(f"{name}: the listing after it", len(taken), listed.count(b'"number"'))
-    if kind == "1 kB":
-        place.check(f"{name}: it is said once that the next start needs much", NEARLY_FULL, told)
-    else:
-        place.check(f"{name}: nothing else is said", b"", told.removeprefix(NEARLY_FULL))
-    out, said, status = place.limited(*asking("list"))
-    place.check(f"{name}: a start, and its lines", (len(taken), b"", 0), (out.count(b"\n"), said, status))
-    if told:
-        place.check(f"{name}: the start says that the next one needs much", True, place.is_nearly_full)
-    if not taken:
+    file_of, held, told = KINDS[kind], [], b""
+    # The second server has opened what the first one took.
+    for which in ("a server", "a second server"):
+        taken, (listed, drawn), refused, last, said = filled(place, file_of, held)
+        place.check(f"{name}: {which} lists", len(held), listed.count(b'"number"'))
+        if held:
+            place.check(f"{name}: {which} draws the first", held[0].rstrip(), drawn.partition(b"\r\n\r\n")[2].rstrip())
+        place.check(f"{name}: {which} refuses", b"HTTP/1.1 503", refused[:12])
+        held += taken
+        place.check(f"{name}: {which} lists after it", len(held), last.count(b'"number"'))
+        if kind == "1 kB" and not told:
+            place.check(f"{name}: {which} says once that the next start needs much", NEARLY_FULL, said)
+        else:
+            place.check(f"{name}: {which} says nothing else", b"", said.removeprefix(NEARLY_FULL))
+        told = told or said
+        print(f"{name}: {which} took {len(taken)} deposits of {len(file_of(0))} bytes", flush=True)
+    if not held:
         return
-    out, said, status = place.limited(*asking("extract", "1"))
-    place.check(f"{name}: the first deposit", (taken[0].rstrip(b"\r\n"), b"", 0), (out.rstrip(b"\r\n"), said, status))
-    place.put("more", small(10**6))
+    place.put("more", file_of(10**6))
     out, said, status = place.limited(*asking("deposit", "more", embargo=servers.DAY))
     more = (out, said, status) not in NO_MEMORY
     if more:
-        want = (b"receipt %d %s\n" % (len(taken) + 1, servers.DAY.encode()), b"", 0)
-        place.check(f"{name}: a deposit more", want, (out, said, status))
-    # A server that opened the register takes more, where it may.
-    again, reply, _, _ = filled(place, lambda number: file_of(len(taken) + number))
-    place.check(f"{name}: what a second server refuses", b"HTTP/1.1 503", reply[:12])
+        want = (b"receipt %d %s\n" % (len(held) + 1, servers.DAY.encode()), b"", 0)
+        place.check(f"{name}: a command deposits", want, (out, said, status))
     out, said, status = place.limited(*asking("list"))
-    listed = len(taken) + more + len(again)
-    place.check(f"{name}: a start after it", (listed, b"", 0), (out.count(b"\n"), said, status))
-    least = place.least(*asking("list"))
-    print(f"{name}: {len(taken)} deposits of {len(taken[0])} bytes, then {len(again)}; opened under {least} MB",
-          flush=True)
+    place.check(f"{name}: a command lists", (len(held) + more, b"", 0), (out.count(b"\n"), said, status))
+    if told:
+        place.check(f"{name}: it says that the next start needs much", True, place.is_nearly_full)
     part = 2 if kind == "1 kB" else 3
-    place.check(f"{name}: 1/{part} of the limit is used", True, part * least * MB >= place.limit)
+    less = place.limited(*asking("list"), limit=place.limit // part - MB)
+    place.check(f"{name}: 1/{part} of the limit is used", OUT_OF_MEMORY, less)
 
 
 def try_dictionary(place, name):

@@ -11,7 +11,7 @@ use Rattle.reg_policy.specs.declared.subject.Decision.{Decision}
 use Rattle.reg_policy.specs.declared.subject.Verb.TheVariants as verbs
 use Rattle.reg_store.specs.Sent.{Sent, is_repeat}
 use Rattle.reg_store.specs.Deposit.{Deposit, sents, new_deposit}
-use Rattle.reg_store.proofs.DepositLemmas.{sents_with_withdrawn}
+use Rattle.reg_store.proofs.Lemmas.{sents_with_withdrawn}
 use Rattle.reg_desk.specs.Asked.{Asked, deposit, withdraw}
 use Rattle.reg_desk.specs.declared.answer.Answer.{Answer}
 use Rattle.reg_desk.specs.declared.answer.Answer.TheVariants.{NoMemory, Receipt, StoreFailed}

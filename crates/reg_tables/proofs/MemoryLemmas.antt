@@ -12,7 +12,7 @@ use Rattle.ags_dict.specs.Entries.{Entries}
 use Rattle.reg_store.specs.declared.keep.KeptHead.{KeptHead}
 use Rattle.reg_store.specs.Sent.{Sent, numbers_from}
 use Rattle.reg_store.specs.Deposit.{Deposit, with_withdrawn, sents, new_deposit}
-use Rattle.reg_store.proofs.DepositLemmas.{sents_with_withdrawn}
+use Rattle.reg_store.proofs.Lemmas.{sents_with_withdrawn}
 use Rattle.reg_tables.specs.declared.memory.Coming.{Coming}
 use Rattle.reg_tables.specs.declared.memory.Known.{Known}
 use Rattle.reg_tables.specs.declared.memory.Memory.{Memory}

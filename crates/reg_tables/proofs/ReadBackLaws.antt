@@ -12,7 +12,7 @@ use Rattle.ags_check.specs.Findings.{CheckedFile}
 use Rattle.reg_store.specs.Fit.{kept_rows}
 use Rattle.reg_store.specs.Sent.{Sent}
 use Rattle.reg_store.specs.Deposit.{Deposit, with_withdrawn, sents, new_deposit}
-use Rattle.reg_store.proofs.DepositLemmas.{sents_with_withdrawn}
+use Rattle.reg_store.proofs.Lemmas.{sents_with_withdrawn}
 use Rattle.reg_tables.specs.declared.schema.format.Format.{Format}
 use Rattle.reg_tables.specs.Tables.{format_number, schema_of}
 use Rattle.reg_tables.specs.declared.schema.format.Format.TheVariants.{First, Second}
