@@ -68,12 +68,14 @@ def filled(program, folder, count, dictionary=dictionaries.large):
 
 
 def memory(process):
-    """VmRSS, Pss and VmHWM in KiB."""
+    """VmRSS, Pss and VmHWM in KiB. What is swapped out counts as Pss too."""
     text = ""
     for name in ("status", "smaps_rollup"):
         with open(f"/proc/{process.pid}/{name}", encoding="ascii") as file:
             text += file.read()
-    return [int(re.search(rf"^{name}:\s*(\d+)", text, re.M)[1]) for name in ("VmRSS", "Pss", "VmHWM")]
+    resident, part, swapped, greatest = (int(re.search(rf"^{name}:\s*(\d+)", text, re.M)[1])
+                                         for name in ("VmRSS", "Pss", "SwapPss", "VmHWM"))
+    return [resident, part + swapped, greatest]
 
 
 def idle(program, folder):
