@@ -7,7 +7,7 @@ ghost use Rattle.ags_links.specs.Steps.{IsGraphOf, StepAt};
 ghost use Rattle.ags_links.specs.Walks.{StepGraph};
 
 use crate::index::Index;
-use crate::steps::rows_stepped_to;
+use crate::steps::{least_stepped_to, rows_stepped_to};
 use std::alloc::{AllocError, Global};
 use std::marker::Model;
 
@@ -46,11 +46,12 @@ impl Graph {
         Some(Graph { rows, steps })
     }
 
-    /// The rows of a file, and all steps between them, sorted, each once. The steps are counted before they are listed, so
-    /// that a list for which there is no memory is refused before it is begun.
+    /// The rows of a file, and all steps between them, sorted, each once. Too many steps are refused before they are
+    /// counted, and they are counted before they are listed.
     pub fn of(alloc: Global, index: &Index<'_, '_, '_>) -> Result<Graph, AllocError>
         ensures { IfOk result (IsGraphOf index.now) }
     {
+        try_room(alloc, index)?;
         let rows = index.row_count();
         let mut steps = Vec::with_capacity(alloc, step_count(alloc, index)?)?;
         for row in 0..rows {
@@ -77,6 +78,21 @@ impl Graph {
         let _rows = self.rows;
         &self.steps
     }
+}
+
+/// Bytes of memory that are asked for a step before the steps are counted. Here a step takes 8. Whoever keeps the file
+/// takes more for it, and would be out of memory later.
+const STEP_ROOM: usize = 128;
+
+/// Asks for the memory that the steps of a file take at least, and gives it back. To count the steps of a row takes the
+/// time of their list, so a file of too many steps is refused before.
+fn try_room(alloc: Global, index: &Index<'_, '_, '_>) -> Result<(), AllocError> {
+    let mut least: usize = 0;
+    for row in 0..index.row_count() {
+        least = least.saturating_add(least_stepped_to(index, row)?);
+    }
+    let _room: Vec<u8> = Vec::with_capacity(alloc, least.saturating_mul(STEP_ROOM))?;
+    Ok(())
 }
 
 /// How many steps the rows of a file have.

@@ -53,6 +53,22 @@ pub(crate) fn rows_stepped_to<'i>(
     Ok(SteppedTo::Listed(each_once(found)))
 }
 
+/// No more than the rows that a row steps to: as many as its parent rows, or as those that a part of its links names,
+/// whichever are more.
+pub(crate) fn least_stepped_to(index: &Index<'_, '_, '_>, row: u32) -> Result<usize, AllocError>
+    requires { row < length (rows_in index.now) }
+{
+    let (kept, _) = index.kept(row);
+    let mut least = index.parent_rows(row).len();
+    if is_definition(kept.group.name.as_slice()) {
+        return Ok(least);
+    }
+    for part in &index.linked_parts(row)? {
+        least = least.max(index.named(part)?.len());
+    }
+    Ok(least)
+}
+
 /// Adds the rows that the row steps to by its record links, if it is in a data group.
 fn add_link_steps(
     index: &Index<'_, '_, '_>,
