@@ -6,8 +6,8 @@
     rows = ags.rows_of(data, words)                      # DATA rows by number, and their steps
     ags.written([(name, headings, units, types, rows)])  # a file as the register spells it
 
-All bytes in, bytes out; nothing prints. conformance/reference.py is the witness of these findings, and shares no line
-with this package: it searches where this one looks up, and conformance/explain compares the two."""
+All bytes in, bytes out; nothing prints. conformance/reference.py is the witness of these findings, and imports nothing
+of this package: it searches where this one looks up, and conformance/explain compares the two."""
 from .dictionary import (Dictionary, GroupEntry, HeadingEntry, NoDictionary, built_in, own_entries,  # noqa: F401
                          read_dictionary)
 from .entry import fits  # noqa: F401

@@ -101,6 +101,10 @@ class Dictionary:
         named = None if group in NO_PARENT else self.parents.get(group)
         return None if named in (None, b"", b"-") else named
 
+    def link_headings(self, parent, group):
+        """The KEY headings of a parent group that the group has: by these its rows name their parent rows."""
+        return tuple(heading for heading in self.keys(parent) if heading in group.columns)
+
     def depth(self, group):
         """How many steps it is to a group without a parent; a ring ends by itself."""
         seen = []

@@ -95,7 +95,7 @@ def entry_findings(file, words, listed=None):
         parent, links, seen = words.parent(name), None, set()
         if parent is not None:
             given = file.by_name.get(parent)
-            joined = [heading for heading in words.keys(parent) if heading in group.columns]
+            joined = words.link_headings(parent, group)
             links = {given.entries(row, joined) for row in given.data} if given else set()
         for row in group.data:
             key = key_of(group, row, words)

@@ -56,7 +56,7 @@ class Rows:
         parent = self.words.parent(group.name)
         if parent is None:
             return []
-        shared = tuple(heading for heading in self.words.keys(parent) if heading in group.columns)
+        shared = self.words.link_headings(parent, group)
         return self.rows_with(parent, shared, group.entries(row, shared))
 
     def linked(self, n):

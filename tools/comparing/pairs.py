@@ -42,7 +42,7 @@ class Renames:
         if parent not in self.by_group:
             return [], {}, set()
         keys, found, (renamed, shared) = self.words.keys(parent), {}, self.by_group[parent]
-        headings = [heading for heading in keys if heading in group.columns]
+        headings = self.words.link_headings(parent, group)
         places = [keys.index(heading) for heading in headings]
         for old, (new, origin) in renamed.items():
             found.setdefault(tuple(old[at] for at in places), set()).add((tuple(new[at] for at in places), origin))

@@ -110,7 +110,7 @@ class Context:
         return self.kept(("10c", group.line), lambda: self.parents_by(self.words.parent(group.name), group))
 
     def parents_by(self, parent, group):
-        joined = tuple(heading for heading in self.words.keys(parent) if heading in group.columns)
+        joined = self.words.link_headings(parent, group)
         return self.kept(("10c", parent, joined), lambda: Parents(self.file.by_name.get(parent), joined))
 
     def near(self, name, names):

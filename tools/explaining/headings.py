@@ -233,7 +233,7 @@ def absent_parent(context, key, findings):
     parent, needed = key[2], {}
     for finding in findings:
         group = context.file.by_name[finding.subject]
-        joined = tuple(heading for heading in context.words.keys(parent) if heading in group.columns)
+        joined = context.words.link_headings(parent, group)
         needed.update(((joined, group.entries(row, joined)), None) for row in group.data if any(row.items))
     names, over = texts.names([finding.subject for finding in findings]), ags.shown(parent)
     belong = "belongs" if len(findings) == 1 else "belong"

@@ -42,10 +42,10 @@ def probe(work):
 
 def rows_needed(work, parent, groups):
     """The KEY entries that the rows of these groups need in their parent group."""
-    keys, found = work.context.words.keys(parent), {}
+    found = {}
     for group in groups:
-        joined = [heading for heading in keys if heading in group.columns]
-        found.update(((tuple(joined), group.entries(row, joined)), None) for row in group.data if any(row.items))
+        joined = work.context.words.link_headings(parent, group)
+        found.update(((joined, group.entries(row, joined)), None) for row in group.data if any(row.items))
     return [dict(zip(joined, entries)) for joined, entries in found]
 
 

@@ -147,7 +147,7 @@ class Parents:
     def of(self, group):
         columns, taken = [], []
         for above in self.above(group.name):
-            shared = [heading for heading in self.words.keys(above.name) if heading in group.columns]
+            shared = self.words.link_headings(above.name, group)
             fresh = [heading for heading in above.headings if heading not in shared]
             taken.append((above, fresh))
             columns += [(above.name + b"." + each, above.measure(each), above.kind(each)) for each in fresh]
