@@ -27,7 +27,7 @@ use Rattle.reg_tables.specs.Register.{deposit_rows}
 use Rattle.reg_tables.specs.Private.Pushes.{equal_at, apart_at}
 use Rattle.reg_tables.proofs.AnswersLaws.{answers, shows_all, shows_rows}
 use Rattle.reg_tables.proofs.ReadsLaws.{equal_order, of_number}
-use Rattle.reg_tables.specs.Private.Adopts.{number_rows}
+use Rattle.reg_tables.specs.Private.NumberRows.{number_rows}
 
 -- ---- what the queries show
 

@@ -45,7 +45,7 @@ use Rattle.reg_tables.specs.declared.error.AdoptError.TheVariants.{NotRegister, 
 use Rattle.reg_tables.specs.Formats.{IsFormatRow}
 use Rattle.reg_tables.specs.Adoption.{Adopts, CountsDeposits, Examines, HasNoOtherFormat, MetaOf, ReadsMeta}
 use Rattle.reg_tables.proofs.RowsLemmas.{numbers_long}
-use Rattle.reg_tables.specs.Private.Adopts.{number_rows}
+use Rattle.reg_tables.specs.Private.NumberRows.{number_rows}
 use Rattle.reg_tables.specs.Whole.{AreWhole, Counts, HasMeta, HoldsBody, IsWhole, Tests}
 use Rattle.reg_tables.proofs.WholeLaws.{adopts_whole, of_all, whole_at}
 use Rattle.reg_tables.proofs.TablesLemmas.{tables_first}

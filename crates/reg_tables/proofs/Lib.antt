@@ -7,7 +7,7 @@ pub mod AnswersLaws
 pub mod CreatesLaws
 pub mod ForeignLaws
 pub mod InsertsLaws
-pub mod KeepLaws
+pub mod KeepLemmas
 pub mod MarksLaws
 pub mod MeaningLaws
 pub mod MethodsLaws
@@ -18,7 +18,7 @@ pub mod QuietLaws
 pub mod ReadsLaws
 pub mod ReadsStepsLaws
 pub mod ApartLaws
-pub mod RegisterLaws
+pub mod RegisterLemmas
 pub mod ShowsLaws
 pub mod ReadBackLaws
 pub mod WholeLaws

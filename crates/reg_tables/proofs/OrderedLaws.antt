@@ -21,7 +21,7 @@ use Rattle.reg_tables.specs.Register.{deposit_rows, mark_rows, meta_columns}
 use Rattle.reg_tables.proofs.AnswersLaws.{all_pass, answers, reads_rows, shows_all}
 use Rattle.reg_tables.proofs.ReadsLaws.{AreFrom, rises}
 use Rattle.reg_tables.specs.Private.Found.{AreMarksInOrder}
-use Rattle.reg_tables.specs.Private.Adopts.{number_rows}
+use Rattle.reg_tables.specs.Private.NumberRows.{number_rows}
 
 -- ---- the numbers
 

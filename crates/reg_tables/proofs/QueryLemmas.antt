@@ -47,13 +47,13 @@ fails_so sql params old new e (inr h) = shows h.0.returning h.2
     shows (Some what) (inl f) = inl f.1
     shows (Some what) (inr f) = inr f.3
 
--- either leaves what was committed, where that was all
-as_before : (old new : State) → (IsTrue old.is_open → old.committed ≡ old.now) → IsTrue new.is_open → IsUnchanged old new ⊎ IsRolledBack old new → IsAsBefore old new
-as_before old new settled is_open (inl same) = (same.0.was_open, (same.0.now_is, same.0.committed_is, inl same.2))
-as_before old new settled is_open (inr back) = let u = back.undone is_open in let was = back.was_open is_open in (was, (u.0 ∙ settled was, u.1, inr back.unmarked))
+-- either leaves what was committed, where that was all and no transaction ran
+as_before : (old new : State) → old.in_transaction ≡ false → (IsTrue old.is_open → old.committed ≡ old.now) → IsTrue new.is_open → IsUnchanged old new ⊎ IsRolledBack old new → IsAsBefore old new
+as_before old new idle settled is_open (inl same) = (same.0.was_open, (same.0.now_is, same.0.committed_is, inl same.2))
+as_before old new idle settled is_open (inr back) = let u = back.undone is_open in let was = back.was_open is_open in (was, (u.0 ∙ settled was, u.1, inr (idle, back.unmarked)))
 
-pub fails_keeps : (sql : List ℕ) (params : Row) (old new : State) (e : Error) → (IsTrue old.is_open → old.committed ≡ old.now) → IsTrue new.is_open → FailsToQuery sql params old new e → IsAsBefore old new
-fails_keeps sql params old new e settled is_open h = as_before old new settled is_open (fails_so sql params old new e h)
+pub fails_keeps : (sql : List ℕ) (params : Row) (old new : State) (e : Error) → old.in_transaction ≡ false → (IsTrue old.is_open → old.committed ≡ old.now) → IsTrue new.is_open → FailsToQuery sql params old new e → IsAsBefore old new
+fails_keeps sql params old new e idle settled is_open h = as_before old new idle settled is_open (fails_so sql params old new e h)
 
 pub shown_same : (sql : List ℕ) (old new : State) (params : Row) (rows : List Row) → IsPlain (understood old.now.schema sql) → Shown sql params old new rows → IsUnchanged old new
 unfolding Shown
@@ -84,10 +84,10 @@ module _ (sql : List ℕ) where
     pub opened_by : (r : Result X Error) → IfOk r (λ x. Shown sql params old new (items x)) → OnOk r (IsTrue new.is_open)
     opened_by r h = IfOk-weaker r _ (λ _. IsTrue new.is_open) (λ x shown. (shown_same sql old new params (items x) plain shown).0.is_open) h
 
-    pub same_by : (r : Result X Error) → (IsTrue old.is_open → old.committed ≡ old.now) → IsTrue new.is_open → IfOk r (λ x. Shown sql params old new (items x))
+    pub same_by : (r : Result X Error) → old.in_transaction ≡ false → (IsTrue old.is_open → old.committed ≡ old.now) → IsTrue new.is_open → IfOk r (λ x. Shown sql params old new (items x))
         → IfErr r (FailsToQuery sql params old new) → IsAsBefore old new
-    same_by (Ok x) settled is_open h f = as_before old new settled is_open (inl (shown_same sql old new params (items x) plain h))
-    same_by (Err e) settled is_open h f = fails_keeps sql params old new e settled is_open f
+    same_by (Ok x) idle settled is_open h f = as_before old new idle settled is_open (inl (shown_same sql old new params (items x) plain h))
+    same_by (Err e) idle settled is_open h f = fails_keeps sql params old new e idle settled is_open f
 
 -- no call, no crash
 pub survives_none : (s : State) → Survives s s (λ _. ⊥)
@@ -106,11 +106,11 @@ ok_quiet old new idle is_open stays survives = record {
   survives = survives;
 }
 
--- a text that is only prepared leaves it too
+-- a text that is only prepared leaves the connection unchanged, or rolled back
 pub probed : {X : Type 0} (P : X → Type 0) (sql : List ℕ) (old new : State) (r : Result X Error) → IfOk r (λ x. P x × IsUnchanged old new) → IfErr r (λ e. (params : Row) → IsNotRun old new sql params e)
-    → (IsTrue old.is_open → old.committed ≡ old.now) → IsTrue new.is_open → IsAsBefore old new
-probed P sql old new (Ok x) ok err settled is_open = as_before old new settled is_open (inl ok.1)
-probed P sql old new (Err e) ok err settled is_open = as_before old new settled is_open (not_run sql [] old new e (err []))
+    → IsUnchanged old new ⊎ IsRolledBack old new
+probed P sql old new (Ok x) ok err = inl ok.1
+probed P sql old new (Err e) ok err = not_run sql [] old new e (err [])
 
 -- the error is that of a text that is no statement
 abbrev pub is_input : Error → Bool
@@ -126,40 +126,39 @@ pub refused_text : (sql : List ℕ) (old new : State) (e : Error) → ((params :
 unfolding IsNotRun
 refused_text sql old new e refused is = elim (refused []) [ inl h ↦ h.1 | inr h ↦ absurd (let none : is_input e ≡ false = ap is_input h.1 ∙ no_fault h.0 in let no : true ≡ false = sym is ∙ none in cc) ]
 
--- the connection is asked whether it is open, and it still is: it shows what it showed from the start
-pub still_then : {P : Trees → Type 0} (old mid new : State) → (HasCleanDisk mid → IsTrue mid.is_open → IsAsBefore old mid)
-    → (HasCleanDisk new → IsTrue new.is_open → IsAsBefore mid new) → Survives mid new P → HasCleanDisk new → IsTrue new.is_open → IsAsBefore old new
-still_then old mid new stays probe two clean is_open =
-    let next = probe clean is_open in
-    let was = stays (clean_before mid new two clean) next.0 in (was.0, same_then old mid new was.1 next.1)
-
 -- what stays as it was shows what was committed, if it did so from the start
 pub settled_then : {P : Trees → Type 0} (old new : State) → (HasCleanDisk old → IsTrue old.is_open → old.committed ≡ old.now) → (HasCleanDisk new → IsTrue new.is_open → IsAsBefore old new) → Survives old new P
     → HasCleanDisk new → IsTrue new.is_open → new.committed ≡ new.now
 settled_then old new settled stays one clean is_open = let was = stays clean is_open in was.1.1 ∙ settled (clean_before old new one clean) was.0 ∙ sym was.1.0
 
--- so does a connection on which a change was undone
-pub settled_undone : (old new : State) → (HasCleanDisk new → IsTrue new.is_open → IsUndone old new) → HasCleanDisk new → IsTrue new.is_open → new.committed ≡ new.now
-settled_undone old new undone clean is_open = let it = undone clean is_open in it.1 ∙ sym it.0
+-- the connection is asked whether it is open, and it still is: it shows what it showed from the start
+pub still_then : {P Q : Trees → Type 0} (old mid new : State) → old.in_transaction ≡ false → mid.in_transaction ≡ false → (HasCleanDisk old → IsTrue old.is_open → old.committed ≡ old.now)
+    → (HasCleanDisk mid → IsTrue mid.is_open → IsAsBefore old mid) → Survives old mid P → (HasCleanDisk new → IsTrue new.is_open → IsUnchanged mid new ⊎ IsRolledBack mid new) → Survives mid new Q
+    → HasCleanDisk new → IsTrue new.is_open → IsAsBefore old new
+still_then old mid new idle idle_mid settled stays one probe two clean is_open =
+    let early = clean_before mid new two clean in
+    let next = as_before mid new idle_mid (settled_then old mid settled stays one early) is_open (probe clean is_open) in
+    let was = stays early next.0 in (was.0, same_then old mid new idle was.1 next.1)
 
 -- what a change that failed leaves of a connection that showed no more than was committed
-pub undone_still : {P : Trees → Type 0} (old new : State) → (HasCleanDisk new → IsTrue new.is_open → IsTrue old.is_open) → (HasCleanDisk new → IsTrue new.is_open → IsUndone old new)
+pub undone_still : {P : Trees → Type 0} (old new : State) → old.in_transaction ≡ false → (HasCleanDisk new → IsTrue new.is_open → IsTrue old.is_open) → (HasCleanDisk new → IsTrue new.is_open → IsUndone old new)
     → (HasCleanDisk old → IsTrue old.is_open → old.committed ≡ old.now) → Survives old new P → HasCleanDisk new → IsTrue new.is_open → IsAsBefore old new
-undone_still old new was_open undone settled one clean is_open =
+undone_still old new idle was_open undone settled one clean is_open =
     let was = was_open clean is_open in
-    let it = undone clean is_open in (was, (it.0 ∙ settled (clean_before old new one clean) was, it.1, inr it.2))
+    let it = undone clean is_open in (was, (it.0 ∙ settled (clean_before old new one clean) was, it.1, inr (idle, it.2)))
 
 -- what is known of a connection on which a change was undone, and which is then asked whether it is open
-pub ruleset undone_laws = (settled_undone, still_then, undone_still)
+pub ruleset undone_laws = (still_then, undone_still)
 
 -- a call failed, and where its answer is no failure of the store, nothing changed since
-pub refused_quiet : (old mid new : State) (failed : Bool) → new.in_transaction ≡ false → (HasCleanDisk mid → IsTrue mid.is_open → IsAsBefore old mid) → Survives old mid (λ _. ⊥)
-    → (HasCleanDisk new → failed ≡ false → IsUnchanged mid new) → (HasCleanDisk new → IsTrue new.is_open → IsAsBefore mid new) → Survives mid new (λ _. ⊥) → IsStill old new failed
-refused_quiet old mid new failed mode stays one unchanged probe two = record {
+pub refused_quiet : (old mid new : State) (failed : Bool) → old.in_transaction ≡ false → mid.in_transaction ≡ false → new.in_transaction ≡ false → (HasCleanDisk old → IsTrue old.is_open → old.committed ≡ old.now)
+    → (HasCleanDisk mid → IsTrue mid.is_open → IsAsBefore old mid) → Survives old mid (λ _. ⊥) → (HasCleanDisk new → failed ≡ false → IsUnchanged mid new)
+    → (HasCleanDisk new → IsTrue new.is_open → IsUnchanged mid new ⊎ IsRolledBack mid new) → Survives mid new (λ _. ⊥) → IsStill old new failed
+refused_quiet old mid new failed idle idle_mid mode settled stays one unchanged probe two = record {
   idle = mode;
   is_open = λ clean well. both_open (unchanged clean well).0.is_open (was clean well).0;
-  same = λ clean well. (let at = unchanged clean well in same_then old mid new (was clean well).1 (at.0.now_is, at.0.committed_is, inl at.2));
-  still = still_then old mid new stays probe two;
+  same = λ clean well. (let at = unchanged clean well in same_then old mid new idle (was clean well).1 (at.0.now_is, at.0.committed_is, inl at.2));
+  still = still_then old mid new idle idle_mid settled stays one probe two;
   survives = survives_then old mid new _ _ (λ _. ⊥) (λ _ db none. none) (λ _ db none. none) one two;
 }
   where

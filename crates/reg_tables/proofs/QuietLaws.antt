@@ -39,8 +39,9 @@ survives_same s = record { clean = omega arith; shield = λ is. is; counts = ome
 pub same_itself : (s : State) → ShowsTheSame s s
 same_itself s = (refl, refl, inl refl)
 
-pub same_then : (a b c : State) → ShowsTheSame a b → ShowsTheSame b c → ShowsTheSame a c
-same_then a b c one two = (two.0 ∙ one.0, two.1 ∙ one.1, elim two.2 [ inl is ↦ elim one.2 [ inl was ↦ inl (is ∙ was) | inr none ↦ inr (is ∙ none) ] | inr none ↦ inr none ])
+-- two calls show the same if each does, where no transaction ran
+pub same_then : (a b c : State) → a.in_transaction ≡ false → ShowsTheSame a b → ShowsTheSame b c → ShowsTheSame a c
+same_then a b c idle one two = (two.0 ∙ one.0, two.1 ∙ one.1, elim two.2 [ inl is ↦ elim one.2 [ inl was ↦ inl (is ∙ was) | inr none ↦ inr (idle, is ∙ none.1) ] | inr none ↦ inr (idle, none.1) ])
 
 -- no call, no change
 pub quiet_none : (s : State) (failed : Bool) → s.in_transaction ≡ false → IsStill s s failed
@@ -52,14 +53,14 @@ quiet_none s failed idle = record {
   survives = survives_same s;
 }
 
-pub quiet_then : (a b c : State) (failed : Bool) → IsStill a b false → IsStill b c failed → IsStill a c failed
-quiet_then a b c failed one two = record {
+pub quiet_then : (a b c : State) (failed : Bool) → a.in_transaction ≡ false → IsStill a b false → IsStill b c failed → IsStill a c failed
+quiet_then a b c failed idle one two = record {
   idle = two.idle;
   is_open = λ clean well. two.is_open clean well ∙ one.is_open (clean_before b c two.survives clean) refl;
-  same = λ clean well. same_then a b c (one.same (clean_before b c two.survives clean) refl) (two.same clean well);
+  same = λ clean well. same_then a b c idle (one.same (clean_before b c two.survives clean) refl) (two.same clean well);
   still = λ clean o.
       (let next = two.still clean o in let first = one.still (clean_before b c two.survives clean) next.0 in
-      (first.0, same_then a b c first.1 next.1));
+      (first.0, same_then a b c idle first.1 next.1));
   survives = survives_then a b c _ _ (λ _. ⊥) (λ _ db none. none) (λ _ db none. none) one.survives two.survives;
 }
 

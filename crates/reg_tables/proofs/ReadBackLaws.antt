@@ -22,7 +22,7 @@ use Rattle.reg_tables.specs.Private.Marks.{long_sents}
 use Rattle.reg_tables.proofs.MarksLaws.{mark_more, marks_push, none_withdrawn, sents_push, sents_unmarked}
 use Rattle.reg_tables.specs.Register.{deposit_rows, file_lines, file_steps, HoldsSent, IsRegister, IsRegisterOf}
 use Rattle.reg_tables.specs.Register.{mark_rows, marks_of, meta_columns}
-use Rattle.reg_tables.proofs.RegisterLaws.{IsReady, holds_push}
+use Rattle.reg_tables.proofs.RegisterLemmas.{IsReady, holds_push}
 
 -- what was sent in tables of format 1 is a register of it, without a mark
 pub unmarked_register : (db : Database) (dictionary : Entries) (list : List Sent) → HoldsSent First db dictionary list

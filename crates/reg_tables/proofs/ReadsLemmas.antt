@@ -10,7 +10,7 @@ use Rattle.reg_store.specs.Deposit.{Deposit}
 use Rattle.reg_tables.specs.declared.error.TableError.{TableError}
 use Rattle.reg_tables.specs.declared.error.TableError.TheVariants.{Store, NoMemory}
 use Rattle.reg_tables.specs.Private.Errors.{keep_answer, database_fails, is_of_database, keep_error}
-use Rattle.reg_tables.proofs.KeepLaws.{left_list, left_same}
+use Rattle.reg_tables.proofs.KeepLemmas.{left_list, left_same}
 use Rattle.reg_tables.specs.Quiet.{IsStill}
 use Rattle.reg_tables.proofs.QuietLaws.{clean_before}
 use Rattle.reg_tables.specs.Register.{deposits_in, text_in, LeavesBroken, LeavesList}

@@ -17,7 +17,7 @@ use Rattle.reg_tables.proofs.ApartLaws.{apart_all, apart_pair}
 use Rattle.reg_tables.specs.Rows.{columns_3, columns_5, deposit_table, given_deposit, line_table, step_table, rows_under, first_column, has_number}
 use Rattle.reg_tables.specs.Register.{file_lines, file_steps, HoldsSent}
 use Rattle.reg_tables.proofs.ShowsLaws.{row_of_number}
-use Rattle.reg_tables.specs.Private.Adopts.{number_rows}
+use Rattle.reg_tables.specs.Private.NumberRows.{number_rows}
 use Rattle.reg_tables.proofs.AdoptsLaws.{by_numbers, each_of, outside}
 use Rattle.reg_tables.proofs.ForeignLaws.{keyed_lines, keyed_steps, no_rows}
 use Rattle.sqlite_catalog.specs.Listing.{IsSound}

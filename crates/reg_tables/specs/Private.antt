@@ -12,7 +12,7 @@ pub mod ReadBack
 pub mod Digests
 pub mod Heads
 pub mod KeepLaws
-pub mod Adopts
+pub mod NumberRows
 pub mod Methods
 pub mod Memory
 pub mod Found

@@ -18,10 +18,12 @@ IsSettled s = IsTrue s.is_open → s.committed ≡ s.now
 abbrev pub IsUndone : State → State → Type 0
 IsUndone old new = (new.now ≡ old.committed) × (new.committed ≡ old.committed) × (new.marks ≡ [])
 
--- It shows what it showed, and what is committed is what was. The savepoints are those that there were, or none.
+-- It shows what it showed, and what is committed is what was. The savepoints are those that there were; where no
+-- transaction ran, there may be none.
 abbrev pub ShowsTheSame : State → State → Type 0
 ShowsTheSame old new =
-    (new.now ≡ old.now) × (new.committed ≡ old.committed) × ((new.marks ≡ old.marks) ⊎ (new.marks ≡ []))
+    (new.now ≡ old.now) × (new.committed ≡ old.committed)
+    × ((new.marks ≡ old.marks) ⊎ ((old.in_transaction ≡ false) × (new.marks ≡ [])))
 
 -- The connection is open if it was, in a transaction if it was, and it shows the same.
 abbrev pub IsTheSame : State → State → Type 0

@@ -116,7 +116,7 @@ abbrev pub meta_columns : ℕ → List ℕ → List Row
 meta_columns number text = dictionary_row text ∷ format_row number ∷ []
 
 -- What both formats have: the tables hold what was sent, under the dictionary that they hold. Rows are compared by
--- their columns, in whatever order they are; of the rowids only the number of a deposit counts.
+-- their columns, in whatever order they are, and no rowid counts: the number of a deposit is a column.
 pub record HoldsSent (format : Format) (db : Database) (dictionary : Entries) (list : List Sent) : Type 0 where
   pub schema : db.schema ≡ schema_of format
   pub sound : IsDatabase db

@@ -14,7 +14,7 @@ use Rattle.reg_store.specs.Fit.{IsFileOf, IsNamed, kept_rows}
 use Rattle.reg_tables.specs.Private.Digests.{IsFirst}
 use Rattle.reg_tables.specs.Rows.{deposit_table, given_deposit, columns_3, first_column, has_number}
 use Rattle.reg_tables.specs.Register.{deposit_rows, meta_columns}
-use Rattle.reg_tables.specs.Private.Adopts.{number_rows}
+use Rattle.reg_tables.specs.Private.NumberRows.{number_rows}
 use Rattle.reg_tables.specs.Private.Methods.{HoldsLines, HoldsSteps}
 
 -- A test finds the fact out: it is true only where the fact holds, and false only where it does not.

@@ -1,7 +1,7 @@
 -- What a call that changes the tables in a transaction of its own does, and what it leaves.
-use Rattle.std.specs.Prelude.{◌≡◌, false, IsTrue, Result, OnOk, OnErr}
+use Rattle.std.specs.Prelude.{◌≡◌, ◌⊎◌, false, IsTrue, Result, OnOk, OnErr}
 use Rattle.sqlite.specs.Effect.{Database, IsDatabase}
-use Rattle.sqlite.specs.State.{State, HasCleanDisk}
+use Rattle.sqlite.specs.State.{State, HasCleanDisk, IsRolledBack, IsUnchanged}
 use Rattle.reg_tables.specs.declared.error.TableError.{TableError}
 use Rattle.reg_tables.specs.Private.Errors.{database_fails}
 use Rattle.reg_tables.specs.Quiet.{IsUndone}
@@ -22,6 +22,10 @@ CommitsAll result new = HasCleanDisk new → OnOk result (new.committed ≡ new.
 -- On a clean disk, the connection was open before an error that leaves it open.
 abbrev pub WasOpenIfOpen : {A E : Type 0} → Result A E → State → State → Type 0
 WasOpenIfOpen result old new = HasCleanDisk new → IsTrue new.is_open → OnErr result (IsTrue old.is_open)
+
+-- On a clean disk, where the connection is open, nothing changed, or its transaction is rolled back.
+abbrev pub StaysOrRollsBack : State → State → Type 0
+StaysOrRollsBack old new = HasCleanDisk new → IsTrue new.is_open → IsUnchanged old new ⊎ IsRolledBack old new
 
 -- On a clean disk, all is undone by an error that leaves the connection open.
 abbrev pub UndoesIfOpen : {A E : Type 0} → Result A E → State → State → Type 0

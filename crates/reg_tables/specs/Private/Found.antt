@@ -17,7 +17,7 @@ use Rattle.reg_tables.specs.Rows.{columns_3, deposit_table, has_number}
 use Rattle.reg_tables.specs.Register.{deposit_rows, mark_rows, mark_table, meta_columns}
 use Rattle.reg_tables.specs.Quiet.{FindsThat, IsTheSame}
 use Rattle.reg_tables.specs.Private.Digests.{HasEqual, HasNoEqual, IsRowOf}
-use Rattle.reg_tables.specs.Private.Adopts.{number_rows}
+use Rattle.reg_tables.specs.Private.NumberRows.{number_rows}
 use Rattle.reg_tables.specs.Private.Methods.{HoldsSteps}
 use Rattle.reg_tables.specs.Whole.{Tests}
 

@@ -11,7 +11,7 @@ ghost use Rattle.reg_tables.specs.Rows.{deposit_table, first_column};
 ghost use Rattle.reg_tables.specs.Tables.{format_number, schema_of};
 ghost use Rattle.reg_tables.specs.Private.Heads.{HoldsKnown};
 ghost use Rattle.reg_tables.specs.Private.Digests.{AreBelow, HoldsDigests, numbers_under};
-ghost use Rattle.reg_tables.specs.Private.Adopts.{number_rows};
+ghost use Rattle.reg_tables.specs.Private.NumberRows.{number_rows};
 ghost use Rattle.reg_tables.specs.Whole.{Counts};
 ghost use Rattle.reg_tables.specs.Adoption.{CountsDeposits, Examines, InEachFormat, MetaOf, gives_up};
 ghost use Rattle.sqlite.specs.Effect.{IsDatabase};

@@ -4,7 +4,8 @@ ghost use Rattle.std.specs.Prelude.{◌≡◌, false, IsTrue, OnOk};
 ghost use Rattle.sqlite.specs.Values.{bound};
 ghost use Rattle.sqlite.specs.State.{HasCleanDisk, Survives, IsUnchanged};
 ghost use Rattle.sqlite.specs.Held.{state};
-ghost use Rattle.reg_tables.specs.Quiet.{IsIdle, IsSettled, IsStill, StaysIfOpen};
+ghost use Rattle.reg_tables.specs.Quiet.{IsIdle, IsStill, StaysIfOpen};
+ghost use Rattle.reg_tables.specs.Private.Commits.{StaysOrRollsBack};
 ghost use Rattle.reg_tables.specs.Private.Found.{FindsShown, OnlyShows};
 ghost use Rattle.reg_tables.specs.Private.Errors.{database_fails, is_of_database};
 
@@ -50,10 +51,9 @@ fn ask<S: Alter>(
 /// Why a call failed. `NoMemory` is answered only where the connection is known to be open.
 #[tactic(auto, using(crate::proofs::QueryLemmas::survives_none))]
 pub(crate) fn refusal<S: Alter>(conn: &mut Connection<S>, error: &Error) -> TableError
-    requires settled { HasCleanDisk (state S.Store conn.old) → IsSettled (state S.Store conn.old) }
     ensures known { HasCleanDisk (state S.Store conn.new) → is_of_database result ≡ false
         → IsUnchanged (state S.Store conn.old) (state S.Store conn.new) }
-    ensures still { StaysIfOpen (state S.Store conn.old) (state S.Store conn.new) }
+    ensures still { StaysOrRollsBack (state S.Store conn.old) (state S.Store conn.new) }
     ensures mode { conn.old.in_transaction ≡ false → conn.new.in_transaction ≡ false }
     ensures crash { Survives (state S.Store conn.old) (state S.Store conn.new) (λ _. ⊥) }
 {
@@ -69,10 +69,9 @@ pub(crate) fn refusal<S: Alter>(conn: &mut Connection<S>, error: &Error) -> Tabl
 /// It is asked for a text that is no statement. A connection that is shut answers that first, and to refuse the text
 /// takes no memory.
 fn probe<S: Alter>(conn: &mut Connection<S>) -> bool
-    requires settled { HasCleanDisk (state S.Store conn.old) → IsSettled (state S.Store conn.old) }
     ensures known { HasCleanDisk (state S.Store conn.new) → IsTrue result
         → IsUnchanged (state S.Store conn.old) (state S.Store conn.new) }
-    ensures still { StaysIfOpen (state S.Store conn.old) (state S.Store conn.new) }
+    ensures still { StaysOrRollsBack (state S.Store conn.old) (state S.Store conn.new) }
     ensures mode { conn.old.in_transaction ≡ false → conn.new.in_transaction ≡ false }
     ensures crash { Survives (state S.Store conn.old) (state S.Store conn.new) (λ _. ⊥) }
 {

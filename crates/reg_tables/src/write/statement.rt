@@ -21,8 +21,6 @@ pub(crate) fn run<S: Alter>(
     ensures kept { CommitsNothing (state_in S.Store tx.old) (state_in S.Store tx.new) }
     ensures survives { Survives (state_in S.Store tx.old) (state_in S.Store tx.new) (λ _. ⊥) }
 {
-    match tx.execute(sql, params) {
-        Ok(_count) => Ok(()),
-        Err(error) => Err(error),
-    }
+    tx.execute(sql, params)?;
+    Ok(())
 }

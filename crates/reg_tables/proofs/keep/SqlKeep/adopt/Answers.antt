@@ -4,7 +4,7 @@ use Rattle.sqlite.specs.State.{HasCleanDisk}
 use Rattle.sqlite.specs.Held.{state}
 use Rattle.reg_tables.specs.declared.schema.format.Format.TheVariants.{Second}
 use Rattle.reg_tables.specs.Adoption.{Adopts}
-use Rattle.reg_tables.proofs.KeepLaws.{adopted_keeps, adopted_list}
+use Rattle.reg_tables.proofs.KeepLemmas.{adopted_keeps, adopted_list}
 use Rattle.reg_tables.specs.Private.Memory.{Agrees}
 use Rattle.reg_tables.proofs.QuietLaws.{clean_before}
 use Rattle.reg_tables.specs.Register.{IsRegister, deposits_in, text_in}

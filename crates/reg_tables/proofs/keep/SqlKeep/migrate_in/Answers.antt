@@ -1,7 +1,7 @@
 use Rattle.std.proofs.Common.{length, refl, sym, subst}
 use Rattle.sqlite.specs.Effect.{Database}
 use Rattle.sqlite.specs.Held.{state}
-use Rattle.reg_tables.proofs.KeepLaws.{adopted_keeps}
+use Rattle.reg_tables.proofs.KeepLemmas.{adopted_keeps}
 use Rattle.reg_tables.specs.Private.Memory.{Agrees}
 use Rattle.reg_tables.specs.Register.{deposits_in}
 use Rattle.reg_tables.proofs.keep.SqlKeep.migrate_in.Goals as goal

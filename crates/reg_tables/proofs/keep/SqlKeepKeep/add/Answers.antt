@@ -14,10 +14,10 @@ use Rattle.reg_tables.specs.Private.Heads.{IsKnownOf, KnowsFile}
 use Rattle.reg_tables.proofs.ExamineLemmas.{known_of}
 use Rattle.reg_tables.specs.Private.Memory.{Agrees, IsComing}
 use Rattle.reg_tables.specs.Register.{KeepsRegister, deposits_in, text_in}
-use Rattle.reg_tables.proofs.RegisterLaws.{IsReady}
+use Rattle.reg_tables.proofs.RegisterLemmas.{IsReady}
 use Rattle.reg_tables.specs.Private.KeepLaws.{ChangesOf, PutsOf}
-use Rattle.reg_tables.proofs.KeepLaws.{HoldsNext, BecomesNext, counted_at, crash_at, idle_at, keeps_same, next_at, put_next}
-use Rattle.reg_tables.proofs.KeepLaws.{schema_at, settled_of, text_committed, whole_next}
+use Rattle.reg_tables.proofs.KeepLemmas.{HoldsNext, BecomesNext, counted_at, crash_at, idle_at, keeps_same, next_at, put_next}
+use Rattle.reg_tables.proofs.KeepLemmas.{schema_at, settled_of, text_committed, whole_next}
 use Rattle.reg_tables.proofs.AddsLemmas.{opened_at}
 use Rattle.reg_tables.proofs.ReadsLemmas.{adds_as, error_fails}
 use Rattle.reg_tables.proofs.keep.SqlKeepKeep.add.Given.{Over}

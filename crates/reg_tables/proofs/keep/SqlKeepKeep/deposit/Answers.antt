@@ -8,7 +8,7 @@ use Rattle.reg_tables.specs.Private.Digests.{IsRowOf}
 use Rattle.reg_tables.specs.Quiet.{IsStill}
 use Rattle.reg_tables.proofs.QuietLaws.{clean_before}
 use Rattle.reg_tables.specs.Register.{deposits_in}
-use Rattle.reg_tables.proofs.KeepLaws.{idle_at, keeps_quiet}
+use Rattle.reg_tables.proofs.KeepLemmas.{idle_at, keeps_quiet}
 use Rattle.reg_tables.proofs.MethodsLaws.{deposit_read_at}
 use Rattle.reg_tables.proofs.MemoryLemmas.{agrees_still}
 use Rattle.reg_tables.proofs.ReadsLemmas.{found_of, reads_still}

@@ -2,7 +2,7 @@ use Rattle.std.proofs.Common.{◌≡◌, ap, refl, subst, sym, ◌+◌, ◌∙�
 use Rattle.sqlite.specs.Held.{state}
 use Rattle.reg_tables.specs.Private.Digests.{AreBelow, digest_of, numbers_under}
 use Rattle.reg_tables.proofs.QuietLaws.{clean_before}
-use Rattle.reg_tables.proofs.KeepLaws.{counted_at, idle_at, keeps_quiet}
+use Rattle.reg_tables.proofs.KeepLemmas.{counted_at, idle_at, keeps_quiet}
 use Rattle.reg_tables.proofs.MemoryLemmas.{agrees_still}
 use Rattle.reg_tables.proofs.RepeatsLemmas.{repeat_found}
 use Rattle.reg_tables.proofs.ReadsLemmas.{answered, reads_table}

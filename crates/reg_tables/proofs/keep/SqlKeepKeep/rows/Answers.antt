@@ -1,7 +1,7 @@
 use Rattle.std.proofs.Common.{refl, sym, ◌∙◌}
 use Rattle.sqlite.specs.Held.{state}
 use Rattle.reg_tables.proofs.QuietLaws.{read_before}
-use Rattle.reg_tables.proofs.KeepLaws.{idle_at, keeps_quiet}
+use Rattle.reg_tables.proofs.KeepLemmas.{idle_at, keeps_quiet}
 use Rattle.reg_tables.proofs.MethodsLaws.{rows_at}
 use Rattle.reg_tables.proofs.MemoryLemmas.{agrees_still}
 use Rattle.reg_tables.proofs.ReadsLemmas.{answered, reads_table}

@@ -3,7 +3,7 @@ use Rattle.sqlite.specs.Held.{state}
 use Rattle.reg_tables.proofs.QuietLaws.{clean_before, read_before}
 use Rattle.reg_tables.specs.Register.{deposits_in}
 use Rattle.std.proofs.lemmas.Result.{IfOk-weaker}
-use Rattle.reg_tables.proofs.KeepLaws.{idle_at, keeps_quiet}
+use Rattle.reg_tables.proofs.KeepLemmas.{idle_at, keeps_quiet}
 use Rattle.reg_tables.proofs.MethodsLaws.{graph_at}
 use Rattle.reg_tables.proofs.MemoryLemmas.{agrees_still}
 use Rattle.reg_tables.proofs.ReadsLemmas.{answered, reads_table}

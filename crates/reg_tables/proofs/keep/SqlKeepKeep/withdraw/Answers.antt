@@ -5,8 +5,8 @@ use Rattle.sqlite.specs.Held.{state}
 use Rattle.reg_store.specs.Deposit.{Deposit, with_withdrawn}
 use Rattle.reg_tables.specs.Private.Errors.{is_of_database, keep_error}
 use Rattle.reg_tables.specs.Private.Inserts.{AddsMark}
-use Rattle.reg_tables.proofs.KeepLaws.{HoldsNext, BecomesNext, counted_at, crash_at, keeps_same, mark_next, next_at}
-use Rattle.reg_tables.proofs.KeepLaws.{schema_at, settled_of, text_committed, whole_next}
+use Rattle.reg_tables.proofs.KeepLemmas.{HoldsNext, BecomesNext, counted_at, crash_at, keeps_same, mark_next, next_at}
+use Rattle.reg_tables.proofs.KeepLemmas.{schema_at, settled_of, text_committed, whole_next}
 use Rattle.reg_tables.proofs.MarksLaws.{length_marked}
 use Rattle.reg_tables.specs.Private.Memory.{Agrees}
 use Rattle.reg_tables.proofs.QuietLaws.{clean_before}

@@ -43,7 +43,7 @@ loop-at-preserved g c =
     let put = one.put (ap Ok is) in
     record {
       idle = idle_then mid new was.idle one.quiet;
-      still = quiet_then old mid new false was.still one.quiet;
+      still = quiet_then old mid new false c.requires.idle.idle was.still one.quiet;
       whole = λ clean.
           (let early = clean_before mid new one.quiet.survives clean in
           whole_more old.now mid.now c.args.dictionary.now at (was.still.same early refl).0 (tests_true is (one.tested clean)) (was.whole early));
@@ -68,11 +68,11 @@ returns-then-not-branch-clause-tested g c clean =
     whole_not (state g.S.Store c.args.conn.now).now mid.now c.args.dictionary.now c.loop-at.at c.args.count (c.loop-at.invariant.still.same early refl).0 (omega arith) (tests_false is (one.tested clean))
 
 pub returns-then-not-branch-clause-quiet : goal.returns-then-not-branch-clause-quiet
-returns-then-not-branch-clause-quiet g c = quiet_then _ _ _ _ c.loop-at.invariant.still c.in_ok-examine_deposit.ensures.quiet
+returns-then-not-branch-clause-quiet g c = quiet_then _ _ _ _ c.requires.idle.idle c.loop-at.invariant.still c.in_ok-examine_deposit.ensures.quiet
 
 pub returns-in_err-examine_deposit-clause-quiet : goal.returns-in_err-examine_deposit-clause-quiet
 returns-in_err-examine_deposit-clause-quiet g c =
-    passed_quiet _ _ c.from_residual.result _ c.from_residual.ensures.1 (quiet_then _ _ _ _ c.loop-at.invariant.still c.in_err-examine_deposit.ensures.quiet)
+    passed_quiet _ _ c.from_residual.result _ c.from_residual.ensures.1 (quiet_then _ _ _ _ c.requires.idle.idle c.loop-at.invariant.still c.in_err-examine_deposit.ensures.quiet)
 
 pub returns-clause-tested : goal.returns-clause-tested
 returns-clause-tested g c clean =

@@ -20,7 +20,7 @@ returns-then-branch-clause-tested g c clean =
     tests_later c.examine_steps.result _ (λ (db : Database). IsPermutation (map step_pair c.args.steps.now) (rows_under c.args.number (step_table db.trees))) (state g.S.Store c.args.conn.now).now mid.now (c.in_ok-examine_lines.ensures.quiet.same early refl).0 first (c.examine_steps.ensures.tested clean)
 
 pub returns-then-branch-clause-quiet : goal.returns-then-branch-clause-quiet
-returns-then-branch-clause-quiet g c = quiet_then _ _ _ _ c.in_ok-examine_lines.ensures.quiet c.examine_steps.ensures.quiet
+returns-then-branch-clause-quiet g c = quiet_then _ _ _ _ c.requires.idle.idle c.in_ok-examine_lines.ensures.quiet c.examine_steps.ensures.quiet
 
 pub returns-else-branch-clause-tested : goal.returns-else-branch-clause-tested
 returns-else-branch-clause-tested g c clean = let no : c.in_ok-examine_lines.field-0 ≡ false = search rules in tests_first _ _ (tests_false no (c.in_ok-examine_lines.ensures.tested clean))

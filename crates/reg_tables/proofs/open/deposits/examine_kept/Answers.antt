@@ -35,7 +35,7 @@ pub returns-then-branch-clause-known : goal.returns-then-branch-clause-known
 returns-then-branch-clause-known g c = subst (λ (found : Option KnownFile). IfSome found (KnowsFile c.args.dictionary.now (sent_of c.args.kept.now))) c.in-Some.is c.in_ok-file.ensures.known
 
 pub returns-then-branch-clause-quiet : goal.returns-then-branch-clause-quiet
-returns-then-branch-clause-quiet g c = quiet_then _ _ _ _ c.in_ok-file.ensures.quiet c.in_ok-examine_repeats.ensures.quiet
+returns-then-branch-clause-quiet g c = quiet_then _ _ _ _ c.requires.idle.idle c.in_ok-file.ensures.quiet c.in_ok-examine_repeats.ensures.quiet
 
 pub returns-else-branch-clause-tested : goal.returns-else-branch-clause-tested
 returns-else-branch-clause-tested g c clean =
@@ -46,8 +46,8 @@ returns-else-branch-clause-tested g c clean =
     tests_then false _ (λ (db : Database). IsNew db c.args.numbers.now (sent_of c.args.kept.now)) (state g.S.Store c.args.conn.now).now mid.now (c.in_ok-file.ensures.quiet.same early refl).0 first (tests_false no (c.in_ok-examine_repeats.ensures.tested clean))
 
 pub returns-else-branch-clause-quiet : goal.returns-else-branch-clause-quiet
-returns-else-branch-clause-quiet g c = quiet_then _ _ _ _ c.in_ok-file.ensures.quiet c.in_ok-examine_repeats.ensures.quiet
+returns-else-branch-clause-quiet g c = quiet_then _ _ _ _ c.requires.idle.idle c.in_ok-file.ensures.quiet c.in_ok-examine_repeats.ensures.quiet
 
 pub returns-in_err-examine_repeats-clause-quiet : goal.returns-in_err-examine_repeats-clause-quiet
 returns-in_err-examine_repeats-clause-quiet g c =
-    passed_quiet _ _ c.from_residual-in_err-examine_repeats.result _ c.from_residual-in_err-examine_repeats.ensures.1 (quiet_then _ _ _ _ c.in_ok-file.ensures.quiet c.in_err-examine_repeats.ensures.quiet)
+    passed_quiet _ _ c.from_residual-in_err-examine_repeats.result _ c.from_residual-in_err-examine_repeats.ensures.1 (quiet_then _ _ _ _ c.requires.idle.idle c.in_ok-file.ensures.quiet c.in_err-examine_repeats.ensures.quiet)

@@ -32,7 +32,7 @@ returns-in-Ok-clause-head g c clean =
     head_shown c.kept_head.result (state g.S.Store c.args.conn.now).now c.args.dictionary.now c.args.number d rows (c.in_ok-rows.ensures.found early) read c.kept_head.ensures.head
 
 pub returns-in-Ok-clause-quiet : goal.returns-in-Ok-clause-quiet
-returns-in-Ok-clause-quiet g c = quiet_then _ _ _ _ c.in_ok-rows.ensures.quiet c.kept_head.ensures.quiet
+returns-in-Ok-clause-quiet g c = quiet_then _ _ _ _ c.requires.idle.idle c.in_ok-rows.ensures.quiet c.kept_head.ensures.quiet
 
 pub returns-in-Err-Store-clause-tested : goal.returns-in-Err-Store-clause-tested
 returns-in-Err-Store-clause-tested g c clean =

@@ -1,7 +1,7 @@
 use Rattle.std.proofs.Common.{rules, arith, ◌≡◌, ◌<◌, ◌+◌, [], ◌∷◌, pos, length, get_or, ap, sym, ◌∙◌}
 use Rattle.sqlite.specs.declared.types.Value.TheVariants.{Int}
 use Rattle.reg_tables.proofs.RowsLemmas.{same_at, same_list, numbers_long, number_at}
-use Rattle.reg_tables.specs.Private.Adopts.{number_rows}
+use Rattle.reg_tables.specs.Private.NumberRows.{number_rows}
 use Rattle.reg_tables.proofs.open.examine.count_numbers.Goals as goal
 
 pub returns-then-rows-clause-none : goal.returns-then-rows-clause-none

@@ -38,7 +38,7 @@ returns-clause-digests g c clean =
     subst (λ (db : Database). HoldsDigests db (c.in_ok-count.count + 1) c.read_register.new.digests) (c.in_ok-dictionary.ensures.quiet.same early refl).0 (c.in_ok-count.ensures.digests clean)
 
 pub returns-clause-quiet : goal.returns-clause-quiet
-returns-clause-quiet g c = quiet_then _ _ _ _ c.in_ok-dictionary.ensures.quiet c.in_ok-count.ensures.quiet
+returns-clause-quiet g c = quiet_then _ _ _ _ c.requires.idle.idle c.in_ok-dictionary.ensures.quiet c.in_ok-count.ensures.quiet
 
 pub returns-in_err-count-clause-examines : goal.returns-in_err-count-clause-examines
 returns-in_err-count-clause-examines g c clean =
@@ -53,7 +53,7 @@ returns-in_err-count-clause-examines g c clean =
 
 pub returns-in_err-count-clause-quiet : goal.returns-in_err-count-clause-quiet
 returns-in_err-count-clause-quiet g c =
-    gives_up_quiet _ _ c.from_residual-in_err-count.result _ c.from_residual-in_err-count.ensures.1 (quiet_then _ _ _ _ c.in_ok-dictionary.ensures.quiet c.in_err-count.ensures.quiet)
+    gives_up_quiet _ _ c.from_residual-in_err-count.result _ c.from_residual-in_err-count.ensures.1 (quiet_then _ _ _ _ c.requires.idle.idle c.in_ok-dictionary.ensures.quiet c.in_err-count.ensures.quiet)
 
 pub returns-in_err-dictionary-clause-quiet : goal.returns-in_err-dictionary-clause-quiet
 returns-in_err-dictionary-clause-quiet g c = gives_up_quiet _ _ c.from_residual.result _ c.from_residual.ensures.1 c.in_err-dictionary.ensures.quiet

@@ -46,7 +46,7 @@ returns-then-branch-clause-digests g c clean =
     subst (λ (db : Database). HoldsDigests db (c.in-Some.count + 1) c.examine_deposits.new.digests) (c.in_ok-count.ensures.quiet.same early refl).0 (c.in_ok-examine_deposits.ensures.digests clean (ap Ok is))
 
 pub returns-then-branch-clause-quiet : goal.returns-then-branch-clause-quiet
-returns-then-branch-clause-quiet g c = quiet_then _ _ _ _ c.in_ok-count.ensures.quiet c.in_ok-examine_deposits.ensures.quiet
+returns-then-branch-clause-quiet g c = quiet_then _ _ _ _ c.requires.idle.idle c.in_ok-count.ensures.quiet c.in_ok-examine_deposits.ensures.quiet
 
 pub returns-else-branch-clause-refused : goal.returns-else-branch-clause-refused
 returns-else-branch-clause-refused g c clean format schema meta =
@@ -60,7 +60,7 @@ returns-else-branch-clause-refused g c clean format schema meta =
     none_examines format old.now c.args.dictionary.now meta (finds_none format old.now c.args.dictionary.now count counts (test.no refl))
 
 pub returns-else-branch-clause-quiet : goal.returns-else-branch-clause-quiet
-returns-else-branch-clause-quiet g c = quiet_then _ _ _ _ c.in_ok-count.ensures.quiet c.in_ok-examine_deposits.ensures.quiet
+returns-else-branch-clause-quiet g c = quiet_then _ _ _ _ c.requires.idle.idle c.in_ok-count.ensures.quiet c.in_ok-examine_deposits.ensures.quiet
 
 pub returns-in_err-count-clause-refused : goal.returns-in_err-count-clause-refused
 returns-in_err-count-clause-refused g c clean = raised_is _ c.from_residual.result _ c.from_residual.ensures.1 (λ format schema meta. tt) (λ format schema meta. tt)
@@ -74,4 +74,4 @@ returns-in_err-examine_deposits-clause-refused g c clean =
 
 pub returns-in_err-examine_deposits-clause-quiet : goal.returns-in_err-examine_deposits-clause-quiet
 returns-in_err-examine_deposits-clause-quiet g c =
-    raised_quiet _ _ c.from_residual-in_err-examine_deposits.result _ c.from_residual-in_err-examine_deposits.ensures.1 (quiet_then _ _ _ _ c.in_ok-count.ensures.quiet c.in_err-examine_deposits.ensures.quiet)
+    raised_quiet _ _ c.from_residual-in_err-examine_deposits.result _ c.from_residual-in_err-examine_deposits.ensures.1 (quiet_then _ _ _ _ c.requires.idle.idle c.in_ok-count.ensures.quiet c.in_err-examine_deposits.ensures.quiet)

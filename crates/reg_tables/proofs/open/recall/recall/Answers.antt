@@ -36,7 +36,7 @@ returns-in_err-marks-clause-refused g c clean =
 
 pub returns-in_err-marks-clause-quiet : goal.returns-in_err-marks-clause-quiet
 returns-in_err-marks-clause-quiet g c =
-    gives_up_quiet _ _ c.from_residual-in_err-marks.result _ c.from_residual-in_err-marks.ensures.1 (quiet_then _ _ _ _ c.in_ok-dictionary.ensures.quiet c.in_err-marks.ensures.quiet)
+    gives_up_quiet _ _ c.from_residual-in_err-marks.result _ c.from_residual-in_err-marks.ensures.1 (quiet_then _ _ _ _ c.requires.idle.idle c.in_ok-dictionary.ensures.quiet c.in_err-marks.ensures.quiet)
 
 pub returns-clause-found : goal.returns-clause-found
 returns-clause-found g c clean =

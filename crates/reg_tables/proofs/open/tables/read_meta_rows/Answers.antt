@@ -22,7 +22,7 @@ returns-clause-same g c clean is_open =
     let old = state g.S.Store c.args.conn.now in
     let first : HasCleanDisk old = omega (arith, c.query_all.ensures.survives.clean) in
     same_by select_meta (λ rows. rows.items) old (state g.S.Store c.query_all.new.self) (all_meta_read _ c.requires.meta).plain []
-    c.query_all.result (c.requires.settled first) is_open (c.query_all.ensures.ok clean) (c.query_all.ensures.err clean)
+    c.query_all.result c.requires.mode (c.requires.settled first) is_open (c.query_all.ensures.ok clean) (c.query_all.ensures.err clean)
 
 pub returns-clause-crash : goal.returns-clause-crash
 returns-clause-crash g c =

@@ -4,7 +4,7 @@ use Rattle.sqlite.proofs.StateLemmas.{survives_then}
 use Rattle.reg_tables.specs.declared.error.AdoptError.TheVariants.{Version}
 use Rattle.reg_tables.specs.Adoption.{Adopts}
 use Rattle.reg_tables.proofs.FormatLemmas.{refused_format, refused_tables}
-use Rattle.reg_tables.proofs.QueryLemmas.{both_open, fault_is, fault_quiet, refused_quiet, settled_then, still_then}
+use Rattle.reg_tables.proofs.QueryLemmas.{both_open, fault_is, fault_quiet, refused_quiet, still_then}
 use Rattle.reg_tables.proofs.open.tables.refuse_tables.Goals as goal
 
 pub returns-in-Some-clause-refused : goal.returns-in-Some-clause-refused
@@ -40,14 +40,11 @@ pub returns-clause-same : goal.returns-clause-same
 returns-clause-same g c clean well =
     let old = state g.S.Store c.args.conn.now in
     let new = state g.S.Store c.refusal.new.conn in
-    let quiet = fault_quiet old new c.refusal.result c.from.result c.from.ensures (refused_quiet old (state g.S.Store c.read_meta_rows.new.conn) new _ (c.refusal.ensures.mode c.read_meta_rows.ensures.mode) c.read_meta_rows.ensures.same c.read_meta_rows.ensures.crash c.refusal.ensures.known c.refusal.ensures.still c.refusal.ensures.crash) in
+    let quiet = fault_quiet old new c.refusal.result c.from.result c.from.ensures (refused_quiet old (state g.S.Store c.read_meta_rows.new.conn) new _ c.requires.mode c.read_meta_rows.ensures.mode (c.refusal.ensures.mode c.read_meta_rows.ensures.mode) c.requires.settled c.read_meta_rows.ensures.same c.read_meta_rows.ensures.crash c.refusal.ensures.known c.refusal.ensures.still c.refusal.ensures.crash) in
     (quiet.is_open clean well, quiet.idle ∙ sym c.requires.mode, quiet.same clean well)
 
 pub returns-clause-still : goal.returns-clause-still
-returns-clause-still g c = still_then (state g.S.Store c.args.conn.now) (state g.S.Store c.read_meta_rows.new.conn) (state g.S.Store c.refusal.new.conn) c.read_meta_rows.ensures.same c.refusal.ensures.still c.refusal.ensures.crash
+returns-clause-still g c = still_then (state g.S.Store c.args.conn.now) (state g.S.Store c.read_meta_rows.new.conn) (state g.S.Store c.refusal.new.conn) c.requires.mode c.read_meta_rows.ensures.mode c.requires.settled c.read_meta_rows.ensures.same c.read_meta_rows.ensures.crash c.refusal.ensures.still c.refusal.ensures.crash
 
 pub returns-clause-crash : goal.returns-clause-crash
 returns-clause-crash g c = survives_then (state g.S.Store c.args.conn.now) (state g.S.Store c.read_meta_rows.new.conn) (state g.S.Store c.refusal.new.conn) _ _ (λ _. ⊥) (λ _ db none. none) (λ _ db none. none) c.read_meta_rows.ensures.crash c.refusal.ensures.crash
-
-pub refusal-requires : goal.refusal-requires
-refusal-requires g c = record { settled = settled_then (state g.S.Store c.args.conn.now) (state g.S.Store c.read_meta_rows.new.conn) c.requires.settled c.read_meta_rows.ensures.same c.read_meta_rows.ensures.crash }

@@ -20,7 +20,7 @@ loop-number-preserved g c =
     let no : c.in_ok-compare_deposit.field-0 ≡ false = search rules in
     record {
       idle = idle_then mid new was.idle found.quiet;
-      still = quiet_then old mid new false was.still found.quiet;
+      still = quiet_then old mid new false c.requires.idle.idle was.still found.quiet;
       none = λ clean.
           (let early = clean_before mid new found.quiet.survives clean in
           no_more_by old.now mid.now c.args.firm.now c.args.project.now c.args.bytes.now c.args.numbers.now c.loop-number.number-index c.in_ok-compare_deposit.field-0 (was.still.same early refl).0 (search rules) (was.none early) (found.equal clean) no);
@@ -35,7 +35,7 @@ returns-then-branch-clause-equal g c clean =
     equal_by (state g.S.Store c.args.conn.now).now mid.now c.args.firm.now c.args.project.now c.args.bytes.now _ c.in_ok-compare_deposit.field-0 (c.loop-number.invariant.still.same early refl).0 (found.equal clean) yes
 
 pub returns-then-branch-clause-quiet : goal.returns-then-branch-clause-quiet
-returns-then-branch-clause-quiet g c = quiet_then _ _ _ _ c.loop-number.invariant.still c.in_ok-compare_deposit.ensures.quiet
+returns-then-branch-clause-quiet g c = quiet_then _ _ _ _ c.requires.idle.idle c.loop-number.invariant.still c.in_ok-compare_deposit.ensures.quiet
 
 pub returns-clause-quiet : goal.returns-clause-quiet
 returns-clause-quiet g c = c.loop-number.invariant.still

@@ -19,7 +19,7 @@ returns-in_err-rows-clause-same g c clean is_open =
     let kept : Survives old new (CommitsShowing c.args.sql.now (bound c.args.params.now) old) = search rules in
     let first : HasCleanDisk old = omega (arith, kept.clean) in
     let held = rw c.in_err-rows.was at c.query.follows.holds-at-none in
-    fails_keeps c.args.sql.now (bound c.args.params.now) old new _ (c.requires.idle.settled first) is_open (held.err clean)
+    fails_keeps c.args.sql.now (bound c.args.params.now) old new _ c.requires.idle.idle (c.requires.idle.settled first) is_open (held.err clean)
 
 pub returns-in_default-clause-shown : goal.returns-in_default-clause-shown
 returns-in_default-clause-shown g c clean =

@@ -16,7 +16,7 @@ returns-clause-same g c clean is_open =
     let old = state g.S.Store c.args.conn.now in
     let new = state g.S.Store c.query_all.new.self in
     let first : HasCleanDisk old = omega (arith, c.query_all.ensures.survives.clean) in
-    same_by c.args.sql.now (λ rows. rows.items) old new (c.requires.plain first) _ c.query_all.result (c.requires.idle.settled first) is_open (c.query_all.ensures.ok clean) (c.query_all.ensures.err clean)
+    same_by c.args.sql.now (λ rows. rows.items) old new (c.requires.plain first) _ c.query_all.result c.requires.idle.idle (c.requires.idle.settled first) is_open (c.query_all.ensures.ok clean) (c.query_all.ensures.err clean)
 
 pub returns-clause-crash : goal.returns-clause-crash
 returns-clause-crash g c =

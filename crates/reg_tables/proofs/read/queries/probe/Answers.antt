@@ -1,5 +1,4 @@
-use Rattle.std.proofs.Common.{arith, ◌≡◌, true, false, ap, sym, ◌∙◌}
-use Rattle.sqlite.specs.State.{HasCleanDisk}
+use Rattle.std.proofs.Common.{◌≡◌, true, false, ap, sym, ◌∙◌}
 use Rattle.sqlite.specs.Held.{state}
 use Rattle.reg_tables.proofs.QueryLemmas.{is_input, probed, refused_text}
 use Rattle.reg_tables.proofs.read.queries.probe.Goals as goal
@@ -13,7 +12,4 @@ returns-clause-known g c clean said = elim c.match-prepare.branch [
 ]
 
 pub returns-clause-still : goal.returns-clause-still
-returns-clause-still g c clean is_open =
-    let old = state g.S.Store c.args.conn.now in
-    let first : HasCleanDisk old = omega (arith, c.prepare.ensures.survives.clean) in
-    probed _ _ old (state g.S.Store c.prepare.new.self) c.prepare.result (c.prepare.ensures.ok clean) (c.prepare.ensures.err clean) (c.requires.settled first) is_open
+returns-clause-still g c clean is_open = probed _ _ (state g.S.Store c.args.conn.now) (state g.S.Store c.prepare.new.self) c.prepare.result (c.prepare.ensures.ok clean) (c.prepare.ensures.err clean)

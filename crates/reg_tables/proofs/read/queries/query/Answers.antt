@@ -1,5 +1,5 @@
 use Rattle.sqlite.specs.Held.{state}
-use Rattle.reg_tables.proofs.QueryLemmas.{ok_quiet, refused_quiet, settled_then}
+use Rattle.reg_tables.proofs.QueryLemmas.{ok_quiet, refused_quiet}
 use Rattle.reg_tables.proofs.read.queries.query.Goals as goal
 
 pub returns-in-Ok-clause-open : goal.returns-in-Ok-clause-open
@@ -13,7 +13,4 @@ returns-in-Err-clause-open g c clean well = (c.refusal.ensures.known clean well)
 
 pub returns-in-Err-clause-quiet : goal.returns-in-Err-clause-quiet
 returns-in-Err-clause-quiet g c =
-    refused_quiet (state g.S.Store c.args.conn.now) (state g.S.Store c.ask.new.conn) (state g.S.Store c.refusal.new.conn) _ (c.refusal.ensures.mode c.ask.ensures.mode) c.ask.ensures.same c.ask.ensures.crash c.refusal.ensures.known c.refusal.ensures.still c.refusal.ensures.crash
-
-pub refusal-requires : goal.refusal-requires
-refusal-requires g c = record { settled = settled_then (state g.S.Store c.args.conn.now) (state g.S.Store c.ask.new.conn) c.requires.idle.settled c.ask.ensures.same c.ask.ensures.crash }
+    refused_quiet (state g.S.Store c.args.conn.now) (state g.S.Store c.ask.new.conn) (state g.S.Store c.refusal.new.conn) _ c.requires.idle.idle c.ask.ensures.mode (c.refusal.ensures.mode c.ask.ensures.mode) c.requires.idle.settled c.ask.ensures.same c.ask.ensures.crash c.refusal.ensures.known c.refusal.ensures.still c.refusal.ensures.crash

@@ -1,4 +1,4 @@
--- Lemmas on the definitions of specs/RegisterLaws.antt.
+-- Lemmas on the definitions of specs/Private/RegisterLaws.antt.
 use Rattle.std.proofs.Common.{◌≡◌, ℕ, ◌+◌, ◌<◌, List, [], ◌∷◌, ◌++◌, map, length, length-append, None, refl, sym, subst}
 use Rattle.std.proofs.Common.{◌∙◌, arith}
 use Rattle.sqlite_catalog.proofs.ListFacts.{zip_push}

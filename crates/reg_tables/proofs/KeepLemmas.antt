@@ -1,4 +1,4 @@
--- Lemmas on the definitions of specs/KeepLaws.antt.
+-- Lemmas on the definitions of specs/Private/KeepLaws.antt.
 use Rattle.std.specs.Prelude.{◌≡◌, map, ℕ, ◌+◌, ◌-◌, ◌<◌, Bool, false, List, [], ◌∷◌, ◌++◌, length, Some, slice_get, IsTrue}
 use Rattle.std.proofs.Common.{◌≤◌, sym, ap, ◌∙◌, subst, arith, inl, inr, ◌⊎◌}
 use Rattle.std.proofs.Math.Logic.{∥∥₁_elim, ∥∥₁_map}
@@ -21,7 +21,7 @@ use Rattle.reg_store.specs.Fit.{kept_rows}
 use Rattle.sqlite.specs.Order.{Row}
 use Rattle.reg_tables.specs.Rows.{columns_3}
 use Rattle.reg_tables.specs.Register.{deposits_in, dictionary_body, text_in, LeavesBroken, LeavesList, KeepsRegister, IsRegister, tables}
-use Rattle.reg_tables.proofs.RegisterLaws.{IsReady}
+use Rattle.reg_tables.proofs.RegisterLemmas.{IsReady}
 use Rattle.reg_tables.specs.Private.ReadBack.{read_back}
 use Rattle.reg_tables.proofs.ReadBackLaws.{register_mark, register_push}
 use Rattle.reg_tables.specs.Quiet.{IsIdle, IsStill}
