@@ -13,7 +13,7 @@ pub data Asked : Type 0 where
   extract : (caller : Caller) (project : List ℕ) (number : ℕ) (groups : List (List ℕ)) (day : ℤ) → Asked
   withdraw : (caller : Caller) (project : List ℕ) (number : ℕ) (day : ℤ) → Asked
 
--- the names of the groups that are asked
+-- the names of the groups that a request asks for
 abbrev pub names_in : List (Bor (List ℕ)) → List (List ℕ)
 names_in groups = map (λ g. g.now) groups
 

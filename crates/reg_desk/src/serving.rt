@@ -1,7 +1,6 @@
 //! What each request is answered, over whatever keeps the deposits.
 
 ghost use Rattle.std.specs.Prelude.{◌≡◌, false};
-ghost use Rattle.std.specs.Str.{bytes_eq};
 ghost use Rattle.reg_desk.specs.Asked.{asked};
 ghost use Rattle.reg_desk.specs.Machine.{question_of};
 ghost use Rattle.reg_desk.specs.Serving.{Serves, ServesPermitted, ShowsRows, answer_of};
@@ -20,7 +19,7 @@ use crate::serving::deposit::serve_deposit;
 use crate::serving::drawing::serve_extract;
 use crate::serving::listing::serve_listing;
 use crate::serving::withdrawal::serve_withdraw;
-use reg_policy::{Decision, Name, Policy, Subject, Verb};
+use reg_policy::{Decision, Policy, Subject, Verb};
 use reg_store::{Keep, KeepError};
 use std::alloc::Global;
 
@@ -128,11 +127,4 @@ fn refused(error: KeepError) -> Answer
         KeepError::Store => Answer::StoreFailed,
         KeepError::NoMemory => Answer::NoMemory,
     }
-}
-
-/// Whether two names are one.
-fn are_equal_names(one: &Name, other: &Name) -> bool
-    ensures { result ≡ bytes_eq one.now other.now }
-{
-    one.text().as_bytes() == other.text().as_bytes()
 }

@@ -7,7 +7,6 @@ ghost use Rattle.reg_desk.specs.Machine.{held};
 ghost use Rattle.reg_desk.specs.Serving.{IsSeenHead, OfHeld, OnlyReads, terms_at};
 ghost use Rattle.reg_desk.specs.View.{Sees};
 
-use crate::serving::are_equal_names;
 use crate::view::{Look, shows_rows};
 use reg_policy::{Caller, Day, Name, Policy};
 use reg_store::{Keep, KeepError, KeptHead};
@@ -33,7 +32,7 @@ pub(super) fn seen_head<K: Keep>(
     ensures refused { result ≢ Err KeepError.Full }
 {
     let head = keep.head(number)?;
-    if head.withdrawn || !are_equal_names(&head.project, project) {
+    if head.withdrawn || head.project != *project {
         return Ok(None);
     }
     let look = Look::at(policy, caller, &head, day);

@@ -8,7 +8,7 @@ ghost use Rattle.reg_desk.specs.Machine.{held};
 ghost use Rattle.reg_desk.specs.Serving.{OnlyReads, ServesPermitted, withdrawn_of};
 
 use crate::answer::Answer;
-use crate::serving::{are_equal_names, refused};
+use crate::serving::refused;
 use reg_policy::{Caller, Name};
 use reg_store::{Keep, KeepError};
 
@@ -51,7 +51,7 @@ fn own_withdrawn<K: Keep>(
         return Ok(None);
     }
     let head = keep.head(number)?;
-    if are_equal_names(&head.project, project) && are_equal_names(&head.firm, &caller.firm) {
+    if head.project == *project && head.firm == caller.firm {
         Ok(Some(head.withdrawn))
     } else {
         Ok(None)

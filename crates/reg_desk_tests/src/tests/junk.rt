@@ -1,4 +1,4 @@
-//! A store that is not sound: where one line of a file is none, no extract shows it.
+//! A store that is not sound: where one row of a file is none, no extract and no listing shows it.
 
 ghost use Rattle.std.specs.Prelude.{◌≡◌, ◌<◌, ◌≤◌, [], All, false, length, IsTrue, refl};
 ghost use Rattle.reg_store.specs.Plain.{deposits_of};
@@ -6,29 +6,38 @@ ghost use Rattle.reg_store.specs.Reading.{HasKind};
 
 use super::examples::MOST;
 use super::memory_of;
-use super::requests::{deposit_of, extract_of, two_of};
+use super::requests::{deposit_of, extract_of, list_of, two_of};
 use ags_check::Checked;
 use ags_dict::Dictionary;
 use ags_links::Graph;
 use ags_text::{Bytes, Sequence};
 use reg_desk::{Answer, Desk, Request};
 use reg_policy::{Caller, Callers, Day, Name, Policy};
-use reg_store::{HeadedRow, Keep, KeepError, Kept, KeptHead, KeptRow, PlainKeep};
+use reg_store::{HeadedRow, Keep, KeepError, Kept, KeptHead, KeptRow, PlainKeep, SharedBytes};
 use samples_of_tests::{CALLERS, FILE_A, POLICY};
-use std::alloc::Global;
+use std::alloc::{AllocError, Global};
 use std::mem::swap;
 
-/// What is changed of a row.
+/// What is changed of a row, or of the row of PROJ.
 #[derive(Clone, Copy)]
 enum Part {
     Line,
     Group,
+    /// The kind, which becomes that of a UNIT row.
+    Kind,
+    /// The line of the row of PROJ.
+    Project,
+    /// The GROUP row above it.
+    ProjectGroup,
+    /// The HEADING row above it.
+    ProjectHeadings,
 }
 
-/// A store in memory that gives a text in place of one line of a file, or of the name of its group. It answers only the
-/// calls that an extract makes.
+/// A store in memory that gives a text in place of this part of one row of a file. It answers only the calls that an
+/// extract and a listing make.
 #[derive(Drop)]
 struct Junked {
+    alloc: Global,
     keep: PlainKeep,
     part: Part,
     place: usize,
@@ -51,8 +60,30 @@ fn put(rows: &mut Vec<KeptRow>, part: Part, place: usize, text: &mut Bytes)
         match part {
             Part::Line => swap(&mut rows[place].line, text),
             Part::Group => swap(&mut rows[place].group, text),
+            Part::Kind => rows[place].kind = 2,
+            Part::Project | Part::ProjectGroup | Part::ProjectHeadings => {}
         }
     }
+}
+
+/// Puts the text in place of this part of the row of PROJ or of a row that it reaches.
+fn put_headed(
+    alloc: Global,
+    rows: &mut Vec<HeadedRow>,
+    part: Part,
+    place: usize,
+    text: &[u8],
+) -> Result<(), AllocError> {
+    if place < rows.len() {
+        let mut shared = SharedBytes::copied(alloc, text)?;
+        match part {
+            Part::Project => swap(&mut rows[place].line, &mut shared),
+            Part::ProjectGroup => swap(&mut rows[place].group, &mut shared),
+            Part::ProjectHeadings => swap(&mut rows[place].headings, &mut shared),
+            Part::Line | Part::Group | Part::Kind => {}
+        }
+    }
+    Ok(())
 }
 
 impl Keep for Junked {
@@ -101,8 +132,8 @@ impl Keep for Junked {
         Err(KeepError::NoMemory)
     }
 
-    fn numbers(&mut self, _project: &Name) -> Result<Vec<u32>, KeepError> {
-        Err(KeepError::NoMemory)
+    fn numbers(&mut self, project: &Name) -> Result<Vec<u32>, KeepError> {
+        self.keep.numbers(project)
     }
 
     fn head(&mut self, n: u32) -> Result<KeptHead, KeepError> {
@@ -131,11 +162,18 @@ impl Keep for Junked {
     }
 
     fn project_rows(&mut self, n: u32) -> Result<Vec<HeadedRow>, KeepError> {
-        if has(&self.keep, n) {
-            self.keep.project_rows(n)
-        } else {
-            Err(KeepError::NoMemory)
+        if !has(&self.keep, n) {
+            return Err(KeepError::NoMemory);
         }
+        let mut rows = self.keep.project_rows(n)?;
+        put_headed(
+            self.alloc,
+            &mut rows,
+            self.part,
+            self.place,
+            self.text.as_slice(),
+        )?;
+        Ok(rows)
     }
 
     fn count(&self) -> u32 {
@@ -173,48 +211,50 @@ fn asked<K: Keep + Drop>(alloc: Global, keep: K, request: &Request) -> Option<(K
     Some((desk.into_keep(), answer))
 }
 
-/// What an extract of the first file is answered, where this part of line `place` of it is the text.
-fn extracted(
+/// What the request is answered, where this part of row `place` of the first file is the text.
+fn answered(
     alloc: Global,
     deposit: &Request,
-    extract: &Request,
+    request: &Request,
     part: Part,
     place: usize,
     text: &[u8],
 ) -> Option<Answer> {
     let (keep, _receipt) = asked(alloc, memory_of(alloc, MOST)?, deposit)?;
     let junked = Junked {
+        alloc,
         keep,
         part,
         place,
         text: Sequence::from_vec(Vec::from_slice(alloc, text).ok()?),
     };
-    let (_keep, answer) = asked(alloc, junked, extract)?;
+    let (_keep, answer) = asked(alloc, junked, request)?;
     Some(answer)
 }
 
-/// Of how many lines of the first file the store fails where this part of them is this text, of 30 places.
+/// At how many rows of the first file the store fails where this part of one is this text, of 30 places.
 fn failures_of(alloc: Global, requests: &[Request], part: Part, text: &[u8]) -> Option<usize> {
-    let [deposit, extract] = requests else {
+    let [deposit, request] = requests else {
         return None;
     };
     let mut failed = 0usize;
     for place in 0..30 {
-        match extracted(alloc, deposit, extract, part, place, text)? {
+        match answered(alloc, deposit, request, part, place, text)? {
             Answer::StoreFailed => failed = failed.saturating_add(1),
-            Answer::Text(_) => {}
+            Answer::Text(_) | Answer::Listing(_) => {}
             _ => return None,
         }
     }
     Some(failed)
 }
 
-/// A deposit of the first file, and an extract of it.
-fn pair_of<'a>(delta: &'a Caller, project: &'a Name, day: Day) -> [Request<'a>; 2] {
-    [
-        deposit_of(delta, project, day, FILE_A, day),
-        extract_of(delta, project, 1, &[], day),
-    ]
+/// A deposit of the first file; and an extract of it, or a list where it is the row of PROJ that is changed.
+fn pair_of<'a>(delta: &'a Caller, project: &'a Name, day: Day, part: Part) -> [Request<'a>; 2] {
+    let request = match part {
+        Part::Line | Part::Group | Part::Kind => extract_of(delta, project, 1, &[], day),
+        Part::Project | Part::ProjectGroup | Part::ProjectHeadings => list_of(delta, project, day),
+    };
+    [deposit_of(delta, project, day, FILE_A, day), request]
 }
 
 /// The same of these two requests by Delta.
@@ -226,7 +266,9 @@ fn failures_by_delta(
     text: &[u8],
 ) -> Option<usize> {
     match two_of(callers, b"t-delta", b"t-echo") {
-        Some((delta, _echo, day)) => failures_of(alloc, &pair_of(delta, project, day), part, text),
+        Some((delta, _echo, day)) => {
+            failures_of(alloc, &pair_of(delta, project, day, part), part, text)
+        }
         None => None,
     }
 }
@@ -266,4 +308,31 @@ fn rows_of_another_kind(rt: HostRuntime) {
 #[test]
 fn rows_of_another_group(rt: HostRuntime) {
     assert!(rt; failures(rt.alloc(), Part::Group, b"UNIT") == Some(5));
+}
+
+/// A row that is kept as a UNIT row: the 5 GROUP rows, the 5 HEADING rows and the 6 DATA rows are missing then. TYPE and
+/// the group before it have as many headings, so its DATA rows are not those of a HEADING row further above.
+#[test]
+fn rows_of_kind_unit(rt: HostRuntime) {
+    assert!(rt; failures(rt.alloc(), Part::Kind, b"") == Some(16));
+}
+
+/// Without a row of PROJ under its header rows there is no listing: of what `project_rows` gives of the first file, one row.
+#[test]
+fn rows_of_proj_that_are_none(rt: HostRuntime) {
+    let alloc = rt.alloc();
+    let rows = [
+        (Part::Project, b"junk".as_slice()),
+        (Part::Project, b"\"DATA\",\"P7\""),
+        (Part::Project, b"\"UNIT\",\"\",\"\""),
+        (Part::ProjectGroup, b"junk"),
+        (Part::ProjectGroup, b"\"GROUP\""),
+        (Part::ProjectGroup, b"\"HEADING\",\"PROJ\""),
+        (Part::ProjectHeadings, b"junk"),
+        (Part::ProjectHeadings, b"\"HEADING\",\"PROJ_ID\""),
+        (Part::ProjectHeadings, b"\"UNIT\",\"\",\"\""),
+    ];
+    for (part, text) in rows {
+        assert!(rt; failures(alloc, part, text) == Some(1));
+    }
 }

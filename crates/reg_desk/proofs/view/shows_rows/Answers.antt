@@ -1,4 +1,5 @@
-use Rattle.std.proofs.Common.{Err, List, All, ap, subst, sym, true}
+use Rattle.std.proofs.Common.{◌∙◌, Err, List, All, ap, arith, length, subst, sym, true}
+use Rattle.std.proofs.lemmas.Bool.{eqb-false, not-true}
 use Rattle.std.proofs.lemmas.List.{take_all}
 use Rattle.std.proofs.lemmas.List.Elements.{All-more, All-nil}
 use Rattle.reg_store.specs.declared.keep.HeadedRow.{HeadedRow}
@@ -33,3 +34,9 @@ pub returns-clause-seen : goal.returns-clause-seen
 returns-clause-seen c = λ file clean are.
     decided c.args.look.now file clean c.args.rows.now are c.is_empty.result c.is_empty.ensures
     (subst (λ (rows : List HeadedRow). All (λ h. HeadedMayBeSeen c.args.look.now h true) rows) (take_all c.loop-row.row-index c.args.rows.now c.loop-row-test.false) c.loop-row.invariant)
+
+pub returns-clause-rows : goal.returns-clause-rows
+returns-clause-rows c = λ e. (
+  omega (arith, eqb-false (length c.args.rows.now) 0 (sym c.is_empty.ensures ∙ not-true c.is_empty.result e)),
+  subst (λ (rows : List HeadedRow). All (λ h. HeadedMayBeSeen c.args.look.now h true) rows) (take_all c.loop-row.row-index c.args.rows.now c.loop-row-test.false) c.loop-row.invariant,
+)
