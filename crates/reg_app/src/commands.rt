@@ -16,6 +16,7 @@ use reg_cli::{
 };
 use reg_desk::Desk;
 use reg_policy::Day;
+use reg_request::Ask;
 use reg_store::NextStart;
 use std::convert::AsStr;
 use std::io::{Read, Write};
@@ -132,7 +133,8 @@ fn check_file<'w, W: Write, E: Write>(
     check_given(alloc, &dictionary, read_path(rt, alloc, file), out, err)
 }
 
-/// Asks a register.
+/// Asks a register. Where a deposit takes the next start over three quarters of the memory, that is said after the
+/// answer.
 fn ask_register<'w, G: Registers, W: Write, E: Write>(
     rt: &HostRuntime,
     machine: Machine<G>,
@@ -157,9 +159,21 @@ fn ask_register<'w, G: Registers, W: Write, E: Write>(
     let groups = ask.groups(alloc)?;
     let kept = open_shown(rt, machine, asker.store, asker.shows_progress, err)?;
     let mut desk = Desk::new(kept, policy);
+    let was_nearly_full = desk.keep().is_nearly_full();
     let done = session.ask(alloc, &mut desk, &ask, &groups, &bytes, out);
+    if !was_nearly_full {
+        tell_after(&ask, desk.keep(), err);
+    }
     G::close(desk.into_keep());
     done
+}
+
+/// Says after a deposit that the next start will need more than three quarters of the memory, if it will. What else is
+/// asked makes it need no more.
+fn tell_after<K: NextStart, E: Write>(ask: &Ask<'_>, keep: &K, err: &mut Watched<E>) {
+    if let Ask::Deposit(_) = ask {
+        let _told = tell_if_nearly_full(keep, err);
+    }
 }
 
 /// Opens the register at a path, and says on standard error how far that is, where that is to be shown.

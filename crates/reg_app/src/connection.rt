@@ -41,7 +41,6 @@ pub(crate) fn serve_accepted<K: Keep, C: Clock, L: Write + Drop>(
     record.end(status);
     Outcome {
         status,
-        is_store_failed: record.is_store_failed,
         written: record.written,
     }
 }
@@ -51,8 +50,6 @@ pub(crate) fn serve_accepted<K: Keep, C: Clock, L: Write + Drop>(
 pub(crate) struct Outcome {
     /// The status of the reply, 0 where the connection gave no byte; none where it failed.
     pub(crate) status: Option<u16>,
-    /// Whether the answer is that the store failed.
-    pub(crate) is_store_failed: bool,
     /// Why its line of the log is not written, if it is not.
     pub(crate) written: Result<(), Fault>,
 }

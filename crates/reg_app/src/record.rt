@@ -20,8 +20,6 @@ pub(crate) struct Record<'c, 'm, 'l, C, L> {
     log: Option<&'l mut Log<L>>,
     facts: LineFacts,
     is_written: bool,
-    /// Whether the answer is that the store failed.
-    pub(crate) is_store_failed: bool,
     /// Why the line is not written, if it is not.
     pub(crate) written: Result<(), Fault>,
 }
@@ -48,7 +46,6 @@ impl<'c, 'm, 'l, C: Clock, L: Write + Drop> Record<'c, 'm, 'l, C, L> {
                 ..LineFacts::default()
             },
             is_written: false,
-            is_store_failed: false,
             written: Ok(()),
         }
     }
@@ -120,7 +117,6 @@ impl<C: Clock, L: Write + Drop> ConnectionNotes for Record<'_, '_, '_, C, L> {
         match answer {
             Answer::Receipt { number, .. } => self.facts.number = Some(*number),
             Answer::Denied(rule) => self.facts.rule = Some(*rule),
-            Answer::StoreFailed => self.is_store_failed = true,
             _ => {}
         }
     }

@@ -14,7 +14,7 @@ use crate::stores::Registers;
 use crate::version::VERSION;
 use ags_cli::{Fault, StreamFailed, Watched, tell};
 use itoa::Buffer;
-use reg_cli::{RightsDigests, Failure, Place, Rights, Service, day_or, read_rights};
+use reg_cli::{Failure, Place, Rights, RightsDigests, Service, day_or, read_rights};
 use reg_desk::Desk;
 use reg_policy::{Callers, Day, Policy};
 use reg_store::{Keep, NextStart};
@@ -249,7 +249,7 @@ fn serve_next<K: Keep, C: Clock, L: Write + Drop, W: Write>(
     }
     outcome.written?;
     print_line(out, outcome.status)?;
-    if server.serving.ends_on_failure && outcome.is_store_failed {
+    if server.serving.ends_on_failure && running.desk.has_failed() {
         return Err(Fault::StoreFailed);
     }
     Ok(())
