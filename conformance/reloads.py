@@ -7,6 +7,7 @@ Policies, callers and logs are replaced while peers ask without a pause: each re
 applied while it was asked, by the second implementation (machine.py), and each connection has one line in one of the
 logs. What is refused changes nothing. A line of the log comes before its reply, also on a full disk."""
 import contextlib
+import hashlib
 import os
 import re
 import resource
@@ -28,7 +29,7 @@ OTHER = head(b"/v1/projects/N1/deposits", [], token=b"t-echo")
 OLD, NEW = machine.POLICY, "[[rule]]\nnumber = 7\neffect = \"deny\"\n"
 TURNS = int(os.environ.get("TURNS", "30"))
 ASKING = 3
-START = re.compile(r"\S+ \* (start|reload) \d+\.\d+\.\d+ policy [0-9a-f]{64} callers [0-9a-f]{64}")
+START = re.compile(r"\S+ \* (start|reload) \d+\.\d+\.\d+ policy ([0-9a-f]{64}) callers ([0-9a-f]{64})")
 
 
 def replies_by(policy, callers=machine.CALLERS, data=LISTING):
@@ -61,6 +62,17 @@ def lines_of(place, *names):
 
 def of_connections(lines):
     return [line for line in lines if line.split(" ")[1] != "*"]
+
+
+def of_rights(lines):
+    """What each line of a start or a reload says: which of both, and the digests of policy and callers."""
+    found = [(line, START.fullmatch(line)) for line in lines if " * " in line]
+    return [match.groups() if match else line for line, match in found]
+
+
+def rights(event, policy=OLD, callers=machine.CALLERS):
+    """What such a line has to say."""
+    return event, *(hashlib.sha256(text.encode()).hexdigest() for text in (policy, callers))
 
 
 def drained(server, lines):
@@ -120,8 +132,8 @@ def under_load(place):
     place.check(f"replies among {TURNS} reloads ({len(load.seen)})", [], wrong)
     place.check("requests among reloads", True, len(load.seen) > TURNS)
     lines = lines_of(place, "log")
-    place.check("lines of starts and reloads", [True] * (TURNS + 1),
-                [bool(START.fullmatch(line)) for line in lines if line.split(" ")[1] == "*"])
+    place.check("lines of starts and reloads",
+                [rights("start"), *(rights("reload", (NEW, OLD)[turn % 2]) for turn in range(TURNS))], of_rights(lines))
     place.check("lines of connections", len(load.seen) + TURNS, len(of_connections(lines)))
     place.put("policy", OLD.encode())
 
@@ -136,11 +148,11 @@ def rotated(place):
         touch(place)
         ask(server)
     load.end()
-    names = ["log", *(f"log.{turn}" for turn in range(TURNS))]
+    names = [*(f"log.{turn}" for turn in range(TURNS)), "log"]
     place.check(f"lines of {len(names)} logs", len(load.seen) + TURNS, len(of_connections(lines_of(place, *names))))
     place.check("lines that are printed", len(load.seen) + TURNS, len(load.printed))
-    place.check("what each log begins with", [True] * len(names),
-                [bool(START.fullmatch(lines_of(place, name)[0])) for name in names])
+    place.check("what each log begins with", [[rights("start" if name == "log.0" else "reload")] for name in names],
+                [of_rights(lines_of(place, name)[:1]) for name in names])
 
 
 def refused(place):
@@ -167,6 +179,7 @@ def refused(place):
     place.put("callers", without.encode())
     touch(place)
     place.check("a revoked token", machine.error(401, "no caller")[1], ask(server))
+    place.check("its line of the log", [rights("reload", callers=without)], of_rights(lines_of(place, "log"))[-1:])
     place.check("a token that is new", by_old, ask(server, LISTING.replace(b"t-delta", b"t-new")))
     place.check("another token", replies_by(OLD, data=OTHER), ask(server, OTHER))
     # A file that is another one is a sign too; one that is missing is none.
@@ -275,7 +288,7 @@ def full(place):
     place.check("a disk with room again", (replies_by(OLD), "200"), (ask(server), server.line("200")))
     server.end("a disk with room again")
     lines = [each for each in lines_of(place, "log") if each != "- - -"]
-    place.check("lines after torn ones", [True] * 4, [bool(START.fullmatch(each)) for each in lines if " * " in each])
+    place.check("lines after torn ones", [rights("start")] * 4, of_rights(lines))
     place.check("the last line", True, " 200 " in lines[-1])
 
 
