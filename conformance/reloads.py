@@ -155,28 +155,36 @@ def rotated(place):
                 [of_rights(lines_of(place, name)[:1]) for name in names])
 
 
+# What of policy, callers and log is another file at a reload (None: it is missing), and why it is refused.
+FOLDER = "a folder"
+REFUSED = [("policy", b"[[rule", "policy refused"), ("callers", b"[[caller", "callers refused"),
+           ("policy", None, "cannot read policy"), ("callers", None, "cannot read callers"),
+           ("policy", FOLDER, "cannot read policy"), ("log", FOLDER, "cannot write log")]
+
+
 def refused(place):
     """What is refused changes nothing, and is said; a token that is revoked is unknown at once."""
     server = place.serve(None, "--reload=sign", "--log=log")
     by_old = replies_by(OLD)
     without = machine.CALLERS.replace('"t-delta"', '"t-new"')
     place.put("policy", NEW.encode())
-    place.check("a policy without a sign", by_old, ask(server))
-    for name, data, reason in (("policy", b"[[rule", "policy refused"), ("callers", b"[[caller", "callers refused")):
-        before = place.got(name)
-        place.put(name, data)
-        touch(place)
-        place.check(f"a {reason}", by_old, ask(server))
-        place.check(f"a {reason}, in the log", True,
-                    lines_of(place, "log")[-2].endswith(f" * reload refused {reason}"))
-        place.put(name, before)
-    os.rename(place.path("policy"), place.path("away"))
-    touch(place)
-    place.check("a missing policy", by_old, ask(server))
-    os.rename(place.path("away"), place.path("policy"))
-    place.check("a policy that is there again, without a sign", by_old, ask(server))
-    place.put("policy", OLD.encode())
     place.put("callers", without.encode())
+    place.check("a policy and callers without a sign", by_old, ask(server))
+    for name, data, reason in REFUSED:
+        os.rename(place.path(name), place.path("away"))
+        if data == FOLDER:
+            os.mkdir(place.path(name))
+        elif data is not None:
+            place.put(name, data)
+        touch(place)
+        place.check(f"{reason}: policy and callers stay", by_old, ask(server))
+        place.check(f"{reason}: the log stays, and says so", True,
+                    lines_of(place, "away" if name == "log" else "log")[-2].endswith(f" * reload refused {reason}"))
+        if data == FOLDER:
+            os.rmdir(place.path(name))
+        os.rename(place.path("away"), place.path(name))
+        place.check(f"{reason}: what is there again, without a sign", by_old, ask(server))
+    place.put("policy", OLD.encode())
     touch(place)
     place.check("a revoked token", machine.error(401, "no caller")[1], ask(server))
     place.check("its line of the log", [rights("reload", callers=without)], of_rights(lines_of(place, "log"))[-1:])
@@ -190,8 +198,8 @@ def refused(place):
     place.check("another sign", by_old, ask(server))
     server.process.send_signal(signal.SIGTERM)
     said = server.process.communicate()[1]
-    faults = [b"policy refused", b"callers refused", b"cannot read policy"]
-    place.check("standard error", b"".join(b"groundreg: %s\ngroundreg: not reloaded\n" % f for f in faults), said)
+    place.check("standard error", "".join(f"groundreg: {reason}\ngroundreg: not reloaded\n" for *_, reason in REFUSED),
+                said.decode())
 
 
 def at_socket(place):
