@@ -124,7 +124,7 @@ class Machine:
         return process
 
     def reload(self, name):
-        """What the unit does where it is told to reload: what is printed, and the status."""
+        """What the unit does at `systemctl reload`: what is printed, and the status."""
         run = subprocess.run([*self.under, *self.command(name, "ExecReload")], cwd=os.path.dirname(self.store(name)),
                              stdout=subprocess.PIPE, stderr=subprocess.STDOUT, text=True, umask=0o077)
         return run.stdout, run.returncode
