@@ -326,6 +326,8 @@ def of_each_status():
             head(b"/v1/projects/N1/deposits?token=t-delta", []),
             head(b"/v1/projects/N1/deposits", [], token=b"nobody"), post(b"deposits", machine.FILE_A, b"t-gamma"),
             head(b"/v1/x\xc3\xa9\\?t-delta", []), head(b"/v1/projects/N1/deposits/9", [], token=b"t-echo"),
+            # The log has 256 bytes of a path: here the first byte of a letter of two is the last one.
+            head(b"/v1/" + b"x" * 251 + b"\xc3\xa9", []),
             head(b"/v1/projects/N1/deposits", [], b"PUT"), head(b"/v1/projects/N1/deposits/1", [], b"DELETE"),
             head(b"/v1/projects/N1/check", [], b"POST"), post(b"check", b"", length=machine.LIMIT + 1), b"", None,
             post(b"deposits", machine.FILE_B)]

@@ -7,6 +7,7 @@ Policies, callers and logs are replaced while peers ask without a pause: each re
 applied while it was asked, by the second implementation (machine.py), and each connection has one line in one of the
 logs. What is refused changes nothing. A line of the log comes before its reply, also on a full disk."""
 import contextlib
+import hashlib
 import os
 import re
 import resource
@@ -28,7 +29,7 @@ OTHER = head(b"/v1/projects/N1/deposits", [], token=b"t-echo")
 OLD, NEW = machine.POLICY, "[[rule]]\nnumber = 7\neffect = \"deny\"\n"
 TURNS = int(os.environ.get("TURNS", "30"))
 ASKING = 3
-START = re.compile(r"\S+ \* (start|reload) \d+\.\d+\.\d+ policy [0-9a-f]{64} callers [0-9a-f]{64}")
+START = re.compile(r"\S+ \* (start|reload) \d+\.\d+\.\d+ policy ([0-9a-f]{64}) callers ([0-9a-f]{64})")
 
 
 def replies_by(policy, callers=machine.CALLERS, data=LISTING):
@@ -61,6 +62,17 @@ def lines_of(place, *names):
 
 def of_connections(lines):
     return [line for line in lines if line.split(" ")[1] != "*"]
+
+
+def of_rights(lines):
+    """What each line of a start or a reload says: which of both, and the digests of policy and callers."""
+    found = [(line, START.fullmatch(line)) for line in lines if " * " in line]
+    return [match.groups() if match else line for line, match in found]
+
+
+def rights(event, policy=OLD, callers=machine.CALLERS):
+    """What such a line has to say."""
+    return event, *(hashlib.sha256(text.encode()).hexdigest() for text in (policy, callers))
 
 
 def drained(server, lines):
@@ -120,8 +132,8 @@ def under_load(place):
     place.check(f"replies among {TURNS} reloads ({len(load.seen)})", [], wrong)
     place.check("requests among reloads", True, len(load.seen) > TURNS)
     lines = lines_of(place, "log")
-    place.check("lines of starts and reloads", [True] * (TURNS + 1),
-                [bool(START.fullmatch(line)) for line in lines if line.split(" ")[1] == "*"])
+    place.check("lines of starts and reloads",
+                [rights("start"), *(rights("reload", (NEW, OLD)[turn % 2]) for turn in range(TURNS))], of_rights(lines))
     place.check("lines of connections", len(load.seen) + TURNS, len(of_connections(lines)))
     place.put("policy", OLD.encode())
 
@@ -136,11 +148,18 @@ def rotated(place):
         touch(place)
         ask(server)
     load.end()
-    names = ["log", *(f"log.{turn}" for turn in range(TURNS))]
+    names = [*(f"log.{turn}" for turn in range(TURNS)), "log"]
     place.check(f"lines of {len(names)} logs", len(load.seen) + TURNS, len(of_connections(lines_of(place, *names))))
     place.check("lines that are printed", len(load.seen) + TURNS, len(load.printed))
-    place.check("what each log begins with", [True] * len(names),
-                [bool(START.fullmatch(lines_of(place, name)[0])) for name in names])
+    place.check("what each log begins with", [[rights("start" if name == "log.0" else "reload")] for name in names],
+                [of_rights(lines_of(place, name)[:1]) for name in names])
+
+
+# What of policy, callers and log is another file at a reload (None: it is missing), and why it is refused.
+FOLDER = "a folder"
+REFUSED = [("policy", b"[[rule", "policy refused"), ("callers", b"[[caller", "callers refused"),
+           ("policy", None, "cannot read policy"), ("callers", None, "cannot read callers"),
+           ("policy", FOLDER, "cannot read policy"), ("log", FOLDER, "cannot write log")]
 
 
 def refused(place):
@@ -149,24 +168,26 @@ def refused(place):
     by_old = replies_by(OLD)
     without = machine.CALLERS.replace('"t-delta"', '"t-new"')
     place.put("policy", NEW.encode())
-    place.check("a policy without a sign", by_old, ask(server))
-    for name, data, reason in (("policy", b"[[rule", "policy refused"), ("callers", b"[[caller", "callers refused")):
-        before = place.got(name)
-        place.put(name, data)
-        touch(place)
-        place.check(f"a {reason}", by_old, ask(server))
-        place.check(f"a {reason}, in the log", True,
-                    lines_of(place, "log")[-2].endswith(f" * reload refused {reason}"))
-        place.put(name, before)
-    os.rename(place.path("policy"), place.path("away"))
-    touch(place)
-    place.check("a missing policy", by_old, ask(server))
-    os.rename(place.path("away"), place.path("policy"))
-    place.check("a policy that is there again, without a sign", by_old, ask(server))
-    place.put("policy", OLD.encode())
     place.put("callers", without.encode())
+    place.check("a policy and callers without a sign", by_old, ask(server))
+    for name, data, reason in REFUSED:
+        os.rename(place.path(name), place.path("away"))
+        if data == FOLDER:
+            os.mkdir(place.path(name))
+        elif data is not None:
+            place.put(name, data)
+        touch(place)
+        place.check(f"{reason}: policy and callers stay", by_old, ask(server))
+        place.check(f"{reason}: the log stays, and says so", True,
+                    lines_of(place, "away" if name == "log" else "log")[-2].endswith(f" * reload refused {reason}"))
+        if data == FOLDER:
+            os.rmdir(place.path(name))
+        os.rename(place.path("away"), place.path(name))
+        place.check(f"{reason}: what is there again, without a sign", by_old, ask(server))
+    place.put("policy", OLD.encode())
     touch(place)
     place.check("a revoked token", machine.error(401, "no caller")[1], ask(server))
+    place.check("its line of the log", [rights("reload", callers=without)], of_rights(lines_of(place, "log"))[-1:])
     place.check("a token that is new", by_old, ask(server, LISTING.replace(b"t-delta", b"t-new")))
     place.check("another token", replies_by(OLD, data=OTHER), ask(server, OTHER))
     # A file that is another one is a sign too; one that is missing is none.
@@ -177,8 +198,8 @@ def refused(place):
     place.check("another sign", by_old, ask(server))
     server.process.send_signal(signal.SIGTERM)
     said = server.process.communicate()[1]
-    faults = [b"policy refused", b"callers refused", b"cannot read policy"]
-    place.check("standard error", b"".join(b"groundreg: %s\ngroundreg: not reloaded\n" % f for f in faults), said)
+    place.check("standard error", "".join(f"groundreg: {reason}\ngroundreg: not reloaded\n" for *_, reason in REFUSED),
+                said.decode())
 
 
 def at_socket(place):
@@ -275,7 +296,7 @@ def full(place):
     place.check("a disk with room again", (replies_by(OLD), "200"), (ask(server), server.line("200")))
     server.end("a disk with room again")
     lines = [each for each in lines_of(place, "log") if each != "- - -"]
-    place.check("lines after torn ones", [True] * 4, [bool(START.fullmatch(each)) for each in lines if " * " in each])
+    place.check("lines after torn ones", [rights("start")] * 4, of_rights(lines))
     place.check("the last line", True, " 200 " in lines[-1])
 
 

@@ -331,7 +331,9 @@ class Site:
                                        ("/etc/ssl/register.key;", f"{self.certificate}.key;"),
                                        ("/etc/ssl/certs/ca-certificates.crt", f"{self.certificate}.crt"),
                                        ("listen 443 ssl;", f"listen 127.0.0.1:{self.port} ssl;"),
-                                       ("    listen [::]:443 ssl;\n", ""), ("    listen [::]:80;\n", ""),
+                                       *[(f"    listen [::]:{usual};\n",
+                                          f"    listen [::1]:{here};\n" if has_ipv6() else "")
+                                         for usual, here in (("443 ssl", f"{self.port} ssl"), ("80", self.plain))],
                                        ("listen 80;", f"listen 127.0.0.1:{self.plain};"),
                                        ("/var/log/nginx/groundreg.log", f"{self.folder}/log"),
                                        ("http://unix:/run/groundreg/empty/socket;", f"{address_of(other)};"), *changes],
@@ -355,6 +357,16 @@ def wait_for(port):
             if probe.connect_ex(("127.0.0.1", port)) == 0:
                 return
         time.sleep(0.02)
+
+
+def has_ipv6():
+    """Whether this machine has ::1."""
+    try:
+        with socket.socket(socket.AF_INET6) as probe:
+            probe.bind(("::1", 0))
+            return True
+    except OSError:
+        return False
 
 
 def lacking(*names):

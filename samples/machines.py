@@ -13,6 +13,7 @@ import nginx_site
 
 here = os.path.dirname(os.path.abspath(__file__))
 BUILT = "/opt/groundreg/current/lib/groundreg"
+TOOLS = "/opt/groundreg/current/bin"
 PATIENCE = 120
 NETWORK, MOUNTS = 0x40000000, 0x00020000
 
@@ -57,7 +58,7 @@ def wait_for_line(process, file):
 
 class Machine:
     """A machine: its folder, and what runs there. `under` are the arguments of a command that starts another one there,
-    as `ip netns exec NAME`."""
+    as `ip netns exec NAME`. A project without a name is the one register of groundreg.service."""
 
     def __init__(self, program, folder, policy, callers, under=()):
         self.program, self.root, self.under, self.processes = program, folder, list(under), []
@@ -77,7 +78,7 @@ class Machine:
 
     def store(self, name):
         """The file of a project's register."""
-        return os.path.join(self.root, "var", "lib", "groundreg", name, "register")
+        return os.path.join(self.root, "var", "lib", "groundreg", name, "register" if name else "site.register")
 
     def socket(self, name):
         """Where the register of a project listens."""
@@ -95,16 +96,16 @@ class Machine:
         """Takes the map over into the site, which reads it when it is reloaded."""
         write(os.path.join(self.site, "projects.map"), self.map())
 
-    def command(self, name):
-        """What the unit starts, below this machine's folder."""
-        settings = dict(line.split("=", 1) for line in self.text(f"{name}.conf").splitlines())
-        unit = read(os.path.join(here, "systemd", "groundreg@.service")).replace("\\\n", "")
-        line = re.search(r"^ExecStart=(.*)$", unit, re.M)[1]
-        for old, new in ((BUILT, self.program), ("/etc/groundreg", self.etc), ("/run/", f"{self.root}/run/"),
-                         ("/var/log/", f"{self.root}/var/log/"), ("%i", name), ("${STORE}", settings["STORE"])):
-            assert old in line, old
-            line = line.replace(old, new)
-        return shlex.split(line)
+    def command(self, name, key="ExecStart"):
+        """What the unit starts, or does by another key, below this machine's folder."""
+        unit = read(os.path.join(here, "systemd", f"groundreg{'@' if name else ''}.service")).replace("\\\n", "")
+        settings = dict(line.split("=", 1) for line in self.text(f"{name}.conf").splitlines()) if name else {}
+        here_is = {BUILT: self.program, TOOLS: os.path.join(here, "..", "bin"), "/etc/groundreg": self.etc,
+                   "/run/": f"{self.root}/run/", "/var/log/": f"{self.root}/var/log/", "%i": name,
+                   "${STORE}": settings.get("STORE")}
+        line, known = re.search(rf"^{key}=(.*)$", unit, re.M)[1], "|".join(map(re.escape, here_is))
+        assert not re.search("/(?:opt|etc|run|var)/", re.sub(known, "", line)), line
+        return shlex.split(re.sub(known, lambda match: here_is[match[0]], line))
 
     def start(self, command, **more):
         # In a session of its own, so that all that it starts can be ended with it.
@@ -121,6 +122,12 @@ class Machine:
             process = self.start(self.command(name), cwd=os.path.dirname(self.store(name)), stdout=printed, umask=0o077)
             wait_for_line(process, printed)
         return process
+
+    def reload(self, name):
+        """What the unit does at `systemctl reload`: what is printed, and the status."""
+        run = subprocess.run([*self.under, *self.command(name, "ExecReload")], cwd=os.path.dirname(self.store(name)),
+                             stdout=subprocess.PIPE, stderr=subprocess.STDOUT, text=True, umask=0o077)
+        return run.stdout, run.returncode
 
     def demand(self, name, idle="10min"):
         """What stands for groundreg-demand@NAME.socket and its service: the register starts at its first request, and is
