@@ -1,1 +1,1 @@
-pub mod Adopting
+pub mod Reporting
