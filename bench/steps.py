@@ -3,10 +3,8 @@
 
 usage: bench/steps.py PROGRAM [ROWS]
 Printed: bytes of the file, its steps, seconds and MB of its deposit, bytes of the register and of its log after it,
-seconds and MB of the next start, which is a listing, and the steps of each deposit by the line that docs/OPERATING.md
-has for that."""
+seconds and MB of the next start, which is a listing, and the steps of each deposit as the tables have them."""
 import os
-import re
 import sqlite3
 import sys
 import tempfile
@@ -40,10 +38,8 @@ def main():
         opened, to_open, _ = place.measured(*asking("list"))
         print(f"{len(data)} bytes, {rows * rows + rows:,} steps: deposit {deposited:.2f} s, {to_deposit:.0f} MB;"
               f" register {sizes[0]} bytes, log {sizes[1]}; the next start {opened:.2f} s, {to_open:.0f} MB")
-        with open(os.path.join(here, "..", "docs", "OPERATING.md"), encoding="utf-8") as page:
-            line = re.search(r'^\$ sqlite3 site\.register "(SELECT deposit, .*)"$', page.read(), re.MULTILINE)[1]
         connection = sqlite3.connect(place.path("register"))
-        print("deposit, steps, DATA rows:", connection.execute(line).fetchall())
+        print("deposit, steps:", connection.execute("SELECT deposit, count(*) FROM steps GROUP BY deposit").fetchall())
         connection.close()
 
 

@@ -5,10 +5,14 @@ usage: reloads.py PROGRAM     the last line is 'N passed, M failed'
 
 Policies, callers and logs are replaced while peers ask without a pause: each reply has to be that of a policy that
 applied while it was asked, by the second implementation (machine.py), and each connection has one line in one of the
-logs. What is refused changes nothing. A line of the log comes before its reply, also on a full disk."""
+logs. What is refused changes nothing. A line of the log comes before its reply, also on a full disk. One bit of a
+register's `-wal` is changed, at random: the register is not opened, or answers as before, or `verify` names what its log
+has and it lacks."""
+import collections
 import contextlib
 import hashlib
 import os
+import random
 import re
 import resource
 import signal
@@ -29,6 +33,7 @@ OTHER = head(b"/v1/projects/N1/deposits", [], token=b"t-echo")
 OLD, NEW = machine.POLICY, "[[rule]]\nnumber = 7\neffect = \"deny\"\n"
 TURNS = int(os.environ.get("TURNS", "30"))
 ASKING = 3
+BITS = int(os.environ.get("BITS", "100"))
 START = re.compile(r"\S+ \* (start|reload) \d+\.\d+\.\d+ policy ([0-9a-f]{64}) callers ([0-9a-f]{64})")
 
 
@@ -343,11 +348,54 @@ CHANGED = [
 ]
 
 
+def answers(place, count, store):
+    """The lists and the extracts of so many deposits by two callers over `serve`, or the end of one that opens nothing."""
+    asked = [head(b"/v1/projects/N1/deposits" + page, [], token=token) for token in (b"t-delta", b"t-echo")
+             for page in (b"", *(b"/%d" % (n + 1) for n in range(count)))]
+    with place.serve(None, store=store) as server:
+        return [ask(server, data) for data in asked] if server.listening else server.rest()
+
+
+def with_bit_changed(data, chance):
+    """These bytes with another bit at one place."""
+    at = chance.randrange(8 * len(data))
+    return data[:at // 8] + bytes([data[at // 8] ^ (1 << at % 8)]) + data[at // 8 + 1:]
+
+
+def flipped(place):
+    """One bit of the `-wal` of a register that was killed. None of the changes passes unnoticed."""
+    place.put("policy", machine.WITHDRAWING.encode())
+    server = place.serve(None, "--log=log")
+    for n in range(8):
+        ask(server, post(b"deposits", machine.FILE_B.replace(b"BH1", b"BH%d" % (n + 5)), fields=[]))
+    for number in (3, 5):
+        ask(server, head(b"/v1/projects/N1/deposits/%d" % number, [], b"DELETE"))
+    server.stop()
+    before, wal, found = place.got("register"), place.got("register-wal"), collections.Counter()
+    # A start may move the `-wal` into the file, so each has a copy.
+    place.copy("register", "copy")
+    was, refusals = answers(place, 10, "copy"), [f"groundreg: {each}\n".encode() for each in ("not a register",
+                                                                                             "store failed")]
+    for number in range(1, BITS + 1):
+        place.put("kept", before)
+        place.put("kept-wal", with_bit_changed(wal, random.Random(f"bit {number}")))
+        place.copy("kept", "copy")
+        now = answers(place, 10, "copy")
+        place.copy("kept", "copy")
+        out, said, status = place.run("verify", "--store=copy", "--log=log")
+        is_refused = isinstance(now, tuple) and now[1] in refusals and (out, said) == (b"", now[1])
+        how = ("refused" if is_refused else "named by `verify`" if status == 1 and b"missing " in out
+               else "answered as before" if now == was else "unnoticed")
+        place.check(f"bit {number} of the -wal: unnoticed", False, how == "unnoticed")
+        found[how] += 1
+    print(f"({BITS} changes of one bit: {', '.join(f'{count} {how}' for how, count in sorted(found.items()))})")
+
+
 def main():
     if len(sys.argv) < 2:
         sys.exit(__doc__)
     passed = failed = 0
-    for part in (under_load, rotated, refused, at_socket, gone, back, full, verified):
+    for part in (under_load, rotated, refused, at_socket, gone, back, full, verified, flipped):
         with tempfile.TemporaryDirectory(prefix="reloads") as folder:
             place = servers.Place(sys.argv[1], folder)
             place.make()
