@@ -183,7 +183,7 @@ const AT_A_START: Rates = Rates {
     deposit: 6_500,
     byte: 3,
     line: 10,
-    step: 140,
+    step: 190,
 };
 
 /// What a process surely holds of a register that it opened. Of rows and steps it may hold nothing, and of what it adds
