@@ -2,11 +2,13 @@
 """Measures what the check of a costly file takes, beside the check of a usual file of its length: files that a caller
 may send, each made so that one part of the check has the most to do.
 
-usage: bench/costly.py PROGRAM [BYTES..]
+usage: bench/costly.py PROGRAM [BYTES..] [NAME..] [--patience SECONDS]
 PROGRAM is groundreg or checker: without arguments it checks what it reads under the dictionary that is built in. For
 each number of bytes (65,536 and 1,048,576) a table, the longest first: processor seconds of the check, the least of
 three runs (one, where it takes a second), and the greatest resident memory in MB; of both how many times those of
-files.deep of that length. A run that is out of memory, or that takes longer than two minutes, is said so."""
+files.deep of that length. A run that is out of memory, or that takes more than so many seconds of a processor (120), is
+said so. NAME is one of the files, as `own_parent`; without one all are measured."""
+import argparse
 import os
 import resource
 import subprocess
@@ -206,51 +208,62 @@ ALL = [own_parent, linked_to_all, whole_groups, parts, files.steps, subsets_of_o
        files.broken, files.short, files.flat, files.ring]
 
 
-def limit():
-    limit_memory()
-    resource.setrlimit(resource.RLIMIT_CPU, (PATIENCE, PATIENCE))
+def limit_to(seconds):
+    """What limits a run to the launcher's memory and so many seconds of a processor."""
+    def limit():
+        limit_memory()
+        resource.setrlimit(resource.RLIMIT_CPU, (seconds, seconds))
+    return limit
 
 
-def checked(program, path):
+def checked(program, path, patience=PATIENCE):
     """Processor seconds, MB, and what is to be said of it, of the shortest check of some."""
     best, most, said = float("inf"), 0.0, ""
     for _ in range(RUNS):
         with open(path, "rb") as data, tempfile.TemporaryFile() as errors, tempfile.NamedTemporaryFile() as note:
             run = subprocess.Popen([*register.noting(note), program], stdin=data, stdout=subprocess.DEVNULL,
-                                   stderr=errors, preexec_fn=limit)
+                                   stderr=errors, preexec_fn=limit_to(patience))
             _, status, usage = os.wait4(run.pid, 0)
             run.returncode = os.waitstatus_to_exitcode(status)
             taken = usage.ru_utime + usage.ru_stime
             best, most = min(best, taken), max(most, register.megabytes(note))
             errors.seek(0)
-            said = "not at its end" if taken >= PATIENCE else errors.read().decode().strip()
+            said = "not at its end" if taken >= patience else errors.read().decode().strip()
         if best > 1:
             break
     return best, most, said
 
 
-def table(program, size, folder):
+def table(program, size, folder, made, patience):
     path = os.path.join(folder, "file.ags")
 
     def row(make):
         with open(path, "wb") as file:
             file.write(data := make(size))
-        return len(data), *checked(program, path)
+        return len(data), *checked(program, path, patience)
 
     _, usual, memory, _ = row(files.deep)
     print(f"\n{size} bytes, of which a usual file takes {usual:.4f} s and {memory:.1f} MB:\n\n"
           "File | Bytes | check, s | times the usual | MB | times the usual |\n---|---|---|---|---|---|---", flush=True)
-    rows = [(make.__name__, *row(make)) for make in ALL]
+    rows = [(make.__name__, *row(make)) for make in made]
     for name, length, taken, most, said in sorted(rows, key=lambda row: -row[2]):
         print(f"{name} | {length} | {taken:.3f} | {taken / usual:.1f} | {most:.1f} | {most / memory:.1f} | {said}")
 
 
 def main():
-    if len(sys.argv) < 2:
-        sys.exit(__doc__)
+    parser = argparse.ArgumentParser(description=__doc__, formatter_class=argparse.RawDescriptionHelpFormatter)
+    parser.add_argument("program")
+    parser.add_argument("words", nargs="*")
+    parser.add_argument("--patience", type=int, default=PATIENCE)
+    given = parser.parse_args()
+    sizes = [int(word) for word in given.words if word.isdigit()]
+    names = [word for word in given.words if not word.isdigit()]
+    if unknown := set(names) - {make.__name__ for make in ALL}:
+        parser.error(f"no such file: {' '.join(unknown)}")
+    made = [make for make in ALL if not names or make.__name__ in names]
     with tempfile.TemporaryDirectory() as folder:
-        for size in map(int, sys.argv[2:]) if sys.argv[2:] else SIZES:
-            table(os.path.abspath(sys.argv[1]), size, folder)
+        for size in sizes or SIZES:
+            table(os.path.abspath(given.program), size, folder, made, given.patience)
 
 
 if __name__ == "__main__":

@@ -3,26 +3,33 @@
 
 usage: conformance/room.py PROGRAM [MB..]      the last line is 'N passed, M failed'
        conformance/room.py PROGRAM --measure   the address space that registers take, for the constants of
-                                               crates/reg_tables/src/memory/room.rt
+                                               crates/reg_tables/src/memory/room.rt: the least limit of a start beside
+                                               what these constants reckon
 
 Under each limit of address space (48 MB to 1 GiB where none is named) a server is given deposits of a kind until one is
-answered `out of memory`: of 1 kB, of 1 MB, of 20 kB with many steps, and of 50 kB with many sets of KEY headings. It then
-lists them. A second server under the same limit lists what has a receipt, draws the first deposit whole, and takes what
-it may. After it a command takes a deposit more or answers `out of memory`, and another lists what has a receipt. Of
-small deposits no less than half of the limit is used, of others no less than a third: under that part no start opens the
-register. What is said above three quarters is said once. The same for `init` with a dictionary, and for `migrate`."""
+answered `out of memory`: of 1 kB, 500 kB and 1 MB, of 10 and 20 kB with many steps, and of 50 kB with many sets of KEY
+headings. It then lists them. A second server under the same limit lists what has a receipt, draws the first deposit
+whole, and takes what it may. After it a command takes a deposit more or answers `out of memory`. Last `verify` compares
+each receipt in the log of both servers with the register. Of small deposits no less than half of the limit is used, of
+others no less than a third: under that part no start opens the register. What is said above three quarters is said once.
+The same for `init` with a dictionary, and for `migrate`, which changes no byte where it is refused."""
+import hashlib
 import os
 import resource
 import sqlite3
 import sys
 import tempfile
 import threading
+import time
 sys.dont_write_bytecode = True
-sys.path.insert(0, os.path.join(os.path.dirname(os.path.abspath(__file__)), "..", "bench"))
+here = os.path.dirname(os.path.abspath(__file__))
+sys.path[:0] = [os.path.join(here, "..", "bench"), os.path.join(here, "..", "tools")]
 import costly  # noqa: E402
 import dictionaries  # noqa: E402
 import files  # noqa: E402
+import registers  # noqa: E402
 import servers  # noqa: E402
+from registers import memory  # noqa: E402
 from servers import NEARLY_FULL, asking, head, post, sample  # noqa: E402
 
 MB = 1 << 20
@@ -43,10 +50,18 @@ def renamed(text):
     return lambda number: text.replace(NAME, b"Site %05d" % number)
 
 
-# The files of each kind, by number, and the limits in MB under which it is tried where none is named.
-KINDS = {"1 kB": small, "1 MB": renamed(files.deep(MB)), "steps": renamed(files.steps(20_000)),
-         "sets": renamed(costly.subsets_without_findings(50_000))}
-LIMITS = {"1 kB": (48, 96, 1024), "1 MB": (48, 96, 1024), "steps": (48, 96, 1024), "sets": (48, 96, 1024)}
+# The files of each kind, by number, and the limits in MB under which it is tried where none is named. Under 48 MB a
+# register takes no file of 1 MB, and none of 20 kB with many steps.
+KINDS = [("1 kB", small, (48, 96, 512)), ("500 kB", renamed(files.deep(500_000)), (48,)),
+         ("1 MB", renamed(files.deep(MB)), (96, 1024)),
+         ("steps of 10 kB", renamed(files.steps(10_000)), (48, 96)),
+         ("steps of 20 kB", renamed(files.steps(20_000)), (96, 1024)),
+         ("sets", renamed(costly.subsets_without_findings(50_000)), (48, 96, 1024))]
+
+
+def processor_seconds():
+    """The seconds of a processor that this script and its ended starts have had."""
+    return sum(sum(resource.getrusage(who)[:2]) for who in (resource.RUSAGE_SELF, resource.RUSAGE_CHILDREN))
 
 
 def limit_of(size):
@@ -79,7 +94,9 @@ def filled(place, file_of, held=()):
     files until it is out of memory. The files that it took, its answers to these requests and to a last listing, and
     what it said."""
     taken = []
-    with place.serve(None, preexec_fn=limit_of(place.limit)) as server:
+    with place.serve(None, "--log=log", preexec_fn=limit_of(place.limit)) as server:
+        if not server.listening:
+            return [], (b"", b""), b"", b"", server.rest()[1]
         # The lines that it prints are read, or it would wait once the pipe is full.
         threading.Thread(target=server.process.stdout.read, daemon=True).start()
         first = server.ask(LISTING), server.ask(FIRST) if held else b""
@@ -94,8 +111,8 @@ def filled(place, file_of, held=()):
         return taken, first, refused, last, server.process.stderr.read()
 
 
-def try_kind(place, kind, name):
-    file_of, held, told = KINDS[kind], [], b""
+def try_kind(place, kind, file_of, name):
+    held, told = [], b""
     # The second server has opened what the first one took.
     for which in ("a server", "a second server"):
         taken, (listed, drawn), refused, last, said = filled(place, file_of, held)
@@ -111,6 +128,7 @@ def try_kind(place, kind, name):
             place.check(f"{name}: {which} says nothing else", b"", said.removeprefix(NEARLY_FULL))
         told = told or said
         print(f"{name}: {which} took {len(taken)} deposits of {len(file_of(0))} bytes", flush=True)
+    place.check(f"{name}: some are taken", True, len(held) > 0)
     if not held:
         return
     place.put("more", file_of(10**6))
@@ -119,8 +137,9 @@ def try_kind(place, kind, name):
     if more:
         want = (b"receipt %d %s\n" % (len(held) + 1, servers.DAY.encode()), b"", 0)
         place.check(f"{name}: a command deposits", want, (out, said, status))
-    out, said, status = place.limited(*asking("list"))
-    place.check(f"{name}: a command lists", (len(held) + more, b"", 0), (out.count(b"\n"), said, status))
+    # The log has what the servers took, and not what the command did.
+    want = (b"verified %d\ncompared %d\n" % (len(held) + more, len(held)), b"", 0)
+    place.check(f"{name}: every receipt is there", want, place.limited("verify", "--store=register", "--log=log"))
     if told:
         place.check(f"{name}: it says that the next start needs much", True, place.is_nearly_full)
     part = 2 if kind == "1 kB" else 3
@@ -157,18 +176,30 @@ def has_tables(place):
     return count > 0
 
 
+def digests(place):
+    """What tells whether a byte of a register or of its log has changed."""
+    return [hashlib.sha256(place.got(name)).hexdigest() if os.path.exists(place.path(name)) else ""
+            for name in ("register", "register-wal")]
+
+
 def try_migrate(place, name):
     """A register of format 1 is migrated under a limit only where it then opens under it."""
     place.make(dictionary="dictionary")
     place.put("given", files.deep(MB))
     place.right(*asking("deposit", "given", embargo=servers.DAY))
     place.copy_as_format_1("register", "first")
+    # The end of a start moves the log into the file.
+    place.copy("first", "register")
+    place.check(f"{name}: format 1", 4, place.run(*asking("list"))[2])
+    place.copy("register", "first")
     taken = 0
     for size in range(10, place.limit // MB, 3):
         place.copy("first", "register")
+        before = digests(place)
         out, said, status = place.limited("migrate", "--store=register", limit=size * MB)
         if status:
             place.check(f"{name}: {size} MB", OUT_OF_MEMORY, (out, said, status))
+            place.check(f"{name}: nothing is changed at {size} MB", before, digests(place))
         else:
             out, said, status = place.limited(*asking("list"), limit=size * MB)
             place.check(f"{name}: opened under {size} MB", (1, b"", 0), (out.count(b"\n"), said, status))
@@ -179,15 +210,29 @@ def try_migrate(place, name):
 # ---- measuring
 
 def space_of(server):
-    """Greatest address space of a process so far, and that of now, in bytes."""
+    """The address space of a process, in bytes. Its greatest says little: under a limit less is allocated ahead."""
     with open(f"/proc/{server.process.pid}/status", encoding="ascii") as file:
-        lines = dict(line.split(":", 1) for line in file)
-    return tuple(int(lines[name].split()[0]) * 1024 for name in ("VmPeak", "VmSize"))
+        return next(int(line.split()[1]) * 1024 for line in file if line.startswith("VmSize:"))
 
 
 def opened(place):
     with place.serve(1) as server:
         return space_of(server)
+
+
+def least_limit(place):
+    """The least limit, to 64 KiB, under which a listing opens a register."""
+    low, high = 0, 4 << 30
+    while high - low > 1 << 16:
+        middle = (low + high) // 2
+        low, high = (low, middle) if place.limited(*asking("list"), limit=middle)[2] == 0 else (middle, high)
+    return high
+
+
+def reckoned(place):
+    """What a start needs by the constants."""
+    place.copy("register", "copy")
+    return memory.needed(registers.read(place.path("copy")))
 
 
 def counts(place):
@@ -201,13 +246,15 @@ def counts(place):
 
 
 def measure(program):
-    print("register | deposits, bytes, rows, steps | empty: peak, now | as it took them: peak, now | opened: peak, now")
+    print("register | deposits, bytes, rows, steps | empty: now | as it took them: now | opened: now | least limit | reckoned")
     mini = dictionaries.small()
     for name, dictionary, make, size, count in [
             ("1 kB", mini, lambda size: None, 0, 1000), ("deep", mini, files.deep, MB, 6),
             ("deep, one", mini, files.deep, 4 * MB, 1), ("flat", mini, files.flat, MB, 6),
             ("flat, one", mini, files.flat, 4 * MB, 1), ("ring", mini, files.ring, MB, 6),
-            ("steps", mini, files.steps, 20_000, 4), ("steps, one", mini, files.steps, 40_000, 1), ("sets", mini, costly.subsets_without_findings, 50_000, 1),
+            ("steps", mini, files.steps, 10_000, 8), ("steps", mini, files.steps, 10_000, 9),
+            ("steps", mini, files.steps, 20_000, 4), ("steps, one", mini, files.steps, 40_000, 1),
+            ("sets", mini, costly.subsets_without_findings, 50_000, 1),
             ("narrow", mini, files.narrow, MB, 1), ("wide", mini, files.wide, MB, 1),
             ("children", mini, files.children, MB, 1), ("160 groups", dictionaries.large(), lambda size: None, 0, 1),
             ("1,000 groups", dictionaries.large(1000, 100_000), lambda size: None, 0, 1)]:
@@ -222,7 +269,8 @@ def measure(program):
                     if b" 200 " not in reply[:16]:
                         sys.exit(f"{name}: {reply[:200]}")
                 took = space_of(server)
-            print(name, len(dictionary), "|", *counts(place), "|", *empty, "|", *took, "|", *opened(place), flush=True)
+            print(name, len(dictionary), "|", *counts(place), "|", empty, "|", took, "|", opened(place), "|",
+                  least_limit(place), "|", reckoned(place), flush=True)
 
 
 def main():
@@ -234,11 +282,13 @@ def main():
         return measure(program)
     passed = failed = 0
     with tempfile.TemporaryDirectory() as folder:
-        for kind in KINDS:
-            for limit in [int(word) for word in words[1:]] or LIMITS[kind]:
-                place = Place(program, folder, limit * MB)
+        for kind, file_of, limits in KINDS:
+            for limit in [int(word) for word in words[1:]] or limits:
+                place, begun = Place(program, folder, limit * MB), (time.monotonic(), processor_seconds())
                 place.make(dictionary="dictionary")
-                try_kind(place, kind, f"{kind} under {limit} MB")
+                try_kind(place, kind, file_of, f"{kind} under {limit} MB")
+                print(f"({kind} under {limit} MB: {time.monotonic() - begun[0]:.0f} s,"
+                      f" {processor_seconds() - begun[1]:.0f} s of a processor)", flush=True)
                 passed, failed = passed + place.passed, failed + place.failed
         for trying, name in ((try_dictionary, "init"), (try_migrate, "migrate")):
             place = Place(program, folder, 96 * MB, dictionaries.large())
