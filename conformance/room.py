@@ -246,7 +246,7 @@ def counts(place):
 
 
 def measure(program):
-    print("register | deposits, bytes, rows, steps | empty: now | as it took them: now | opened: now | least limit | reckoned")
+    print("register | deposits, bytes, rows, steps | empty | as it took them | opened | least limit | reckoned")
     mini = dictionaries.small()
     for name, dictionary, make, size, count in [
             ("1 kB", mini, lambda size: None, 0, 1000), ("deep", mini, files.deep, MB, 6),
