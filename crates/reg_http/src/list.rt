@@ -3,8 +3,8 @@ ghost use Rattle.std.specs.Prelude.{◌≡◌, OnErr};
 ghost use Rattle.reg_http.specs.Connections.{AreFresh, ServesList, ServesPair};
 ghost use Rattle.reg_http.specs.Tallies.{IsFresh};
 
-use crate::error::IoFault;
 use crate::connection::{Served, serve_one};
+use crate::error::IoFault;
 use crate::tally::Tally;
 use reg_desk::Desk;
 use reg_policy::{Callers, Day};
