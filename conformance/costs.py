@@ -123,12 +123,12 @@ def medians(ask, requests):
     return {name: statistics.median(each) for name, each in taken.items()}
 
 
-def alike(ask, requests):
-    """Medians of requests that should cost the same. A busy machine disturbs them, so they are taken up to three times,
-    until none is more than ALIKE times another."""
+def alike(ask, requests, times=ALIKE):
+    """Medians of requests none of which should take so many times another. A busy machine disturbs them, so they are taken
+    up to three times, until that is so."""
     for _ in range(3):
         found = medians(ask, requests)
-        if max(found.values()) <= ALIKE * min(found.values()):
+        if max(found.values()) <= times * min(found.values()):
             break
     return found
 
@@ -167,7 +167,7 @@ def try_reaching(place):
             pages = [head(b"/v1/projects/N1/deposits", [], token=token) for token in (b"t-delta", b"t-echo")]
             place.check(f"listings, {name}", [1, seen], [server.ask(page).count(b'"number"') for page in pages])
             asked |= {(name, firm): (server, page) for firm, page in zip(("own", "other"), pages)}
-        found = medians(lambda each: each[0].ask(each[1]), asked)
+        found = alike(lambda each: each[0].ask(each[1]), asked, MOST_OF_REACHED)
     told("listings", {", ".join(name): each for name, each in found.items()})
     for firm in ("own", "other"):
         place.check(f"a listing of what a row of PROJ reaches: at most {MOST_OF_REACHED} times a usual one, {firm}", True,
