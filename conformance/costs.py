@@ -7,7 +7,7 @@ Each costly file of bench/costly.py is checked beside the usual file of its leng
 bytes take at most 20 times as long, and 50 MB. Of 1,048,576 bytes the files that docs/OPERATING.md speaks of may take
 longer, and none takes more than 8 times the memory. A deposit of too many steps is answered `out of memory` at most
 two seconds after its check. A listing of files whose row of PROJ has a FILE_FSET costs what one of files without it
-does. One of a file whose row of PROJ reaches 700 rows, shown or hidden, looks at each of them: it takes at most 20 times
+does. One of a file whose row of PROJ reaches 700 rows, shown or hidden, looks at each of them: it takes at most 40 times
 as long as one of a usual file. An extract of a deposit that is hidden costs
 what that of a withdrawn one costs, and of one that never was, also through nginx, and there what one of a project
 without a register costs: medians of 300 requests."""
@@ -37,7 +37,7 @@ LIMIT, MOST_SECONDS = 1 << 30, 2
 WITHDRAWING = b'\n[[rule]]\nnumber = 90\neffect = "permit"\nverb = "withdraw"\n'
 LISTING = head(b"/v1/projects/N1/deposits", [])
 ASKED, ALIKE = 300, 1.5
-REACHED, MOST_OF_REACHED = 700, 20
+REACHED, MOST_OF_REACHED = 700, 40
 
 
 def try_files(place, program):
