@@ -56,7 +56,7 @@ KINDS = [("1 kB", small, (48, 96, 512)), ("500 kB", renamed(files.deep(500_000))
          ("1 MB", renamed(files.deep(MB)), (96, 1024)),
          ("steps of 10 kB", renamed(files.steps(10_000)), (48, 96)),
          ("steps of 20 kB", renamed(files.steps(20_000)), (96, 1024)),
-         ("sets", renamed(costly.subsets_without_findings(50_000)), (48, 96, 1024))]
+         ("sets", renamed(costly.subsets_without_findings(50_000)), (48, 96))]
 
 
 def processor_seconds():
