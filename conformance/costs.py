@@ -29,8 +29,9 @@ from servers import head, post, sample  # noqa: E402
 
 MB = 1 << 20
 MOST, MOST_MB, MOST_TIMES_MB = 20, 50, 8
-# Those whose groups have different KEY headings of one parent group: their time grows with the square of the length.
-SLOWER, MOST_OF_SLOWER = ("subsets_of_all", "subsets_of_two", "subsets_alike", "subsets_of_ten"), 100
+# Those whose groups have different KEY headings of one parent group: their time grows with the square of the length. At
+# 1 MB each may take twice as many times the usual file as docs/MEASURED.md has: a busy machine slows the largest most.
+SLOWER = {"subsets_of_all": 140, "subsets_alike": 70, "subsets_of_two": 45, "subsets_of_ten": 40}
 REFUSED = (costly.own_parent, costly.linked_to_all)
 # Under this limit of memory; seconds of a processor beyond those of the check.
 LIMIT, MOST_SECONDS = 1 << 30, 2
@@ -49,7 +50,7 @@ def try_files(place, program):
             name = f"{make.__name__} of {size} bytes"
             place.put("file.ags", make(size))
             taken, most, said = costly.checked(program, path)
-            times = MOST_OF_SLOWER if size == MB and make.__name__ in SLOWER else MOST
+            times = SLOWER.get(make.__name__, MOST) if size == MB else MOST
             place.check(f"{name}: at most {times} times the usual file ({taken / usual:.1f})", True,
                         taken <= times * usual)
             place.check(f"{name}: what it says", "", said)
