@@ -11,7 +11,8 @@ answered `out of memory`: of 1 kB, 500 kB and 1 MB, of 10 and 20 kB with many st
 headings. It then lists them. A second server under the same limit lists what has a receipt, draws the first deposit
 whole, and takes what it may. After it a command takes a deposit more or answers `out of memory`. Last `verify` compares
 each receipt in the log of both servers with the register. Of small deposits no less than half of the limit is used, of
-others no less than a third: under that part no start opens the register. What is said above three quarters is said once.
+others no less than a third: under that part no start opens the register. What is said above three quarters is said once,
+also by a command that deposits.
 The same for `init` with a dictionary, and for `migrate`, which changes no byte where it is refused."""
 import hashlib
 import os
@@ -207,6 +208,23 @@ def try_migrate(place, name):
     place.check(f"{name}: migrated under some", True, taken > 0)
 
 
+def try_told(program, folder):
+    """A command that deposits says once that the next start needs much, where the start after it says so."""
+    told = set()
+    for limit in range(30, 50, 4):
+        place, name = Place(program, folder, limit * MB), f"a deposit under {limit} MB"
+        place.make(dictionary="dictionary")
+        place.put("given", files.steps(10_000))
+        out, said, status = place.run(*asking("deposit", "given", embargo=servers.DAY), preexec_fn=limit_of(place.limit))
+        place.check(f"{name}: its receipt", (b"receipt 1 %s\n" % servers.DAY.encode(), 0), (out, status))
+        listed = place.limited(*asking("list"))
+        place.check(f"{name}: a start after it", (b"", 0), listed[1:])
+        place.check(f"{name}: what it says", NEARLY_FULL * place.is_nearly_full, said)
+        told.add(place.is_nearly_full)
+        yield place
+    place.check("a deposit says so under some limits alone", {False, True}, told)
+
+
 # ---- measuring
 
 def space_of(server):
@@ -294,6 +312,8 @@ def main():
             place = Place(program, folder, 96 * MB, dictionaries.large())
             trying(place, name)
             passed, failed = passed + place.passed, failed + place.failed
+        places = list(try_told(program, folder))
+        passed, failed = (passed + sum(place.passed for place in places), failed + sum(place.failed for place in places))
     print(f"{passed} passed, {failed} failed")
     return failed > 0
 
