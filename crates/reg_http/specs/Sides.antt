@@ -1,5 +1,5 @@
 -- What is served over a desk and the two sides of a connection, a reader and a writer whose calls are counted.
-use Rattle.std.specs.Prelude.{◌≡◌, ℕ, ℤ, List, ◌++◌, Result, IfSome}
+use Rattle.std.specs.Prelude.{◌≡◌, ℕ, ℤ, List, ◌++◌, Result, IfSome, IsTrue}
 use Rattle.std.specs.declared.io.Read.{Ghosts as ReadGhosts}
 use Rattle.std.specs.declared.io.Write.{Ghosts as WriteGhosts}
 use Rattle.httparse.specs.Grammar.{RequestHead}
@@ -10,8 +10,8 @@ use Rattle.reg_desk.specs.Desks.{AnsweredBy}
 use Rattle.reg_desk.specs.declared.desk.Desk.{Desk}
 use Rattle.reg_http.specs.HeadParts.{head_parts, parts_seen}
 use Rattle.reg_http.specs.Heads.{IsHead}
-use Rattle.reg_http.specs.Serving.{ServesAsked, ServesOne, ServesRequest, Written}
-use Rattle.reg_http.specs.Tallies.{tally_inner}
+use Rattle.reg_http.specs.Serving.{ServesAsked, ServesOne, ServesRequest, Written, is_read, is_write}
+use Rattle.reg_http.specs.Tallies.{tally_inner, tally_has_failed}
 use Rattle.reg_http.specs.Views.{asking_at}
 use Rattle.reg_http.specs.declared.request.HeadAsk.{HeadAsk}
 use Rattle.reg_http.specs.declared.request.parts.Parts.{Parts}
@@ -70,3 +70,10 @@ module _ {K R W : Type 0} {keep : KeepGhosts K} (reads : ReadGhosts R) (writes :
   ServesOneFrom callers day reader old new writer writer_after r =
       IfSome (reads.remaining (tally_inner reader))
       (λ bytes. ServesOneTo writes callers day bytes old new writer writer_after r)
+
+module _ {K R W : Type 0} {keep : KeepGhosts K} where
+  -- faults are those of the two sides, each exactly, and a failed read changes neither desk nor writer
+  abbrev pub TellsFaults : Tally R → Desk K keep → Desk K keep → Tally W → Tally W → Result Served IoFault → Type 0
+  TellsFaults reader_after old new writer writer_after r =
+      (tally_has_failed reader_after ≡ is_read r) × (tally_has_failed writer_after ≡ is_write r)
+      × (IsTrue (is_read r) → (new ≡ old) × (writer_after ≡ writer))

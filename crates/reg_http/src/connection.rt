@@ -7,7 +7,7 @@ ghost use Rattle.reg_desk.specs.Asked.{asked};
 ghost use Rattle.reg_http.specs.Rendering.{is_fixed, rendered, status_of};
 ghost use Rattle.reg_http.specs.Serving.{ServesAnswer, WaitsFor, body_reads, is_read, is_write};
 ghost use Rattle.reg_http.specs.Sides.{ServesAskedFrom, ServesHead, ServesOneFrom, ServesOneTo};
-ghost use Rattle.reg_http.specs.Sides.{ServesRequestTo, WrittenTo};
+ghost use Rattle.reg_http.specs.Sides.{ServesRequestTo, TellsFaults, WrittenTo};
 ghost use Rattle.reg_http.specs.Tallies.{tally_inner, calls_of, tally_has_failed, IsFresh};
 
 use crate::error::{BodyFault, IoFault, Refusal};
@@ -127,10 +127,7 @@ fn serve_head<K: Keep, R: Read, W: Write, N: ConnectionNotes>(
     ensures served { ServesHead R.Read W.Write callers.now day parts.now early.now reader.old
         desk.old desk.new writer.old writer.new result }
 
-    // Faults are those of the two sides, each exactly, and a failed read changes neither desk nor writer.
-    ensures read_fault { tally_has_failed reader.new ≡ is_read result }
-    ensures write_fault { tally_has_failed writer.new ≡ is_write result }
-    ensures unread { IsTrue (is_read result) → (desk.new ≡ desk.old) × (writer.new ≡ writer.old) }
+    ensures faults { TellsFaults reader.new desk.old desk.new writer.old writer.new result }
 
     // How many reads are made at most.
     ensures calls { calls_of reader.new ≤ calls_of reader.old + LIMIT + 1 }
@@ -161,10 +158,7 @@ fn serve_asked<K: Keep, R: Read, W: Write, N: ConnectionNotes>(
     ensures served { ServesAskedFrom R.Read W.Write asking.now day early.now reader.old
         desk.old desk.new writer.old writer.new result }
 
-    // Faults are those of the two sides, each exactly, and a failed read changes neither desk nor writer.
-    ensures read_fault { tally_has_failed reader.new ≡ is_read result }
-    ensures write_fault { tally_has_failed writer.new ≡ is_write result }
-    ensures unread { IsTrue (is_read result) → (desk.new ≡ desk.old) × (writer.new ≡ writer.old) }
+    ensures faults { TellsFaults reader.new desk.old desk.new writer.old writer.new result }
 
     // How many reads are made at most.
     ensures calls { calls_of reader.new ≤ calls_of reader.old + asking.now.length + 1 }

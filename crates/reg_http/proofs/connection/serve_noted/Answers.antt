@@ -51,9 +51,9 @@ returns-in-Whole g c =
     record {
       served = of_named _ served;
       unnamed = (served.0, served.2);
-      read_fault = c.serve_head.ensures.read_fault;
-      write_fault = c.serve_head.ensures.write_fault;
-      unread = c.serve_head.ensures.unread;
+      read_fault = c.serve_head.ensures.faults.0;
+      write_fault = c.serve_head.ensures.faults.1;
+      unread = c.serve_head.ensures.faults.2;
       silent = silent_whole _ _ held.head heads;
       calls = omega (arith, c.in-Whole.ensures.calls, small, c.serve_head.ensures.calls);
       waits = waits_body _ _ _ held.head _ _ heads (reads held.head held.at) (omega (arith, c.in-Whole.ensures.calls, small, c.serve_head.ensures.waits));
