@@ -162,7 +162,16 @@ def rotated(place):
 
 # What of policy, callers and log is another file at a reload (None: it is missing), and why it is refused.
 FOLDER = "a folder"
-REFUSED = [("policy", b"[[rule", "policy refused"), ("callers", b"[[caller", "callers refused"),
+RULE = b'[[rule]]\nnumber = 7\neffect = "deny"\n'
+CALLER = b'[[caller]]\ntoken = "t"\nfirm = "F"\nrole = "r"\n'
+REFUSED = [("policy", b"[[rule", "policy refused: not TOML"), ("policy", b"# \xff", "policy refused: not TOML"),
+           ("policy", RULE + b"why = 1\n", "policy refused: unknown key"),
+           ("policy", b'[[rule]]\neffect = "deny"\n', "policy refused: bad value"),
+           ("policy", RULE + RULE, "policy refused: the numbers do not rise"),
+           ("callers", b"[[caller", "callers refused: not TOML"), ("callers", b"# \xff", "callers refused: not TOML"),
+           ("callers", CALLER + b"why = 1\n", "callers refused: unknown key"),
+           ("callers", CALLER[:-11], "callers refused: bad value"),
+           ("callers", CALLER + CALLER, "callers refused: a token stands twice"),
            ("policy", None, "cannot read policy"), ("callers", None, "cannot read callers"),
            ("policy", FOLDER, "cannot read policy"), ("log", FOLDER, "cannot write log")]
 

@@ -12,7 +12,7 @@ use crate::moment::Moment;
 use crate::reload::{Reload, ReloadFile, Renewal};
 use crate::stores::Registers;
 use crate::version::VERSION;
-use ags_cli::{Fault, StreamFailed, Watched, tell};
+use ags_cli::{Fault, StreamFailed, Watched, tell, tell_line};
 use itoa::Buffer;
 use reg_cli::{Failure, Place, Rights, RightsDigests, Service, day_or, read_rights};
 use reg_desk::Desk;
@@ -197,17 +197,29 @@ fn note_refused<'w, L: Write + Drop, E: Write>(
     log: &mut Option<Log<L>>,
     err: &mut Watched<E>,
 ) -> Result<(), Fault> {
-    let mut reason = Vec::new(alloc);
-    let _told = failure.tell(&mut Watched::new(&mut reason));
-    let _said = tell(err, &reason, 0);
+    let reason = reason_of(alloc, failure);
+    let _said = tell_line(err, &reason, b"", 0);
     let _said = tell(err, b"groundreg: not reloaded\n", 0);
     let reason = reason.as_slice();
     let reason = reason.strip_prefix(b"groundreg: ").unwrap_or(reason);
-    let reason = reason.strip_suffix(b"\n").unwrap_or(reason);
     match log {
         Some(log) => log.append_refused(log.trusted(moment), "reload", reason),
         None => Ok(()),
     }
+}
+
+/// What is said of a failure, without its line end, and what is wrong with a policy or with callers that are refused.
+/// What no memory is there for is left out.
+fn reason_of(alloc: Global, failure: &Failure<'_>) -> Vec<u8> {
+    let mut reason = Vec::new(alloc);
+    let _told = failure.tell(&mut Watched::new(&mut reason));
+    let _line_end = reason.pop();
+    let _added = match failure {
+        Failure::Policy(error) => write!(reason, ": {error}"),
+        Failure::Callers(error) => write!(reason, ": {error}"),
+        _ => Ok(()),
+    };
+    reason
 }
 
 /// The moment of a connection, none where its day is that of the request and is before the latest one of the log: the

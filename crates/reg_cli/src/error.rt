@@ -8,6 +8,7 @@ ghost use Rattle.reg_cli.specs.declared.error.Failure.TheVariants.{Plain};
 
 use ags_cli::{Fault, Watched, tell, tell_line};
 use itoa::Buffer;
+use reg_policy::{CallersError, PolicyError};
 use std::alloc::AllocError;
 use std::io::Write;
 
@@ -16,6 +17,10 @@ use std::io::Write;
 pub enum Failure<'w> {
     /// A fault whose text is the same each time.
     Plain(Fault),
+    /// The policy is none.
+    Policy(PolicyError),
+    /// The callers are none.
+    Callers(CallersError),
     /// The file that this argument names can not be read.
     CannotRead(&'w str),
     /// The file that this argument names can not be written.
@@ -49,6 +54,8 @@ impl<'w> Failure<'w> {
     {
         match self {
             Failure::Plain(fault) => fault.tell(err),
+            Failure::Policy(_) => Fault::PolicyRefused.tell(err),
+            Failure::Callers(_) => Fault::CallersRefused.tell(err),
             Failure::CannotRead(path) => tell_unread(err, path),
             Failure::CannotWrite(path) => tell_unwritten(err, path),
             Failure::Version(number) => tell_version(err, *number),

@@ -83,31 +83,31 @@ fn drop_line_end(text: &mut Vec<u8>) {
     }
 }
 
-/// The policy that bytes are.
-fn policy_in(alloc: Global, bytes: &[u8]) -> Result<Policy, Fault>
+/// The policy that bytes are. What is no text is no TOML.
+fn policy_in<'w>(alloc: Global, bytes: &[u8]) -> Result<Policy, Failure<'w>>
     ensures { IfOk result (λ policy. HasRules bytes.now policy) }
 {
     let Some(text) = utf8_text(bytes) else {
-        return Err(Fault::PolicyRefused);
+        return Err(Failure::Policy(PolicyError::Syntax));
     };
     match Policy::read(alloc, text) {
         Ok(policy) => Ok(policy),
-        Err(PolicyError::NoMemory) => Err(Fault::NoMemory),
-        Err(_) => Err(Fault::PolicyRefused),
+        Err(PolicyError::NoMemory) => Err(Failure::Plain(Fault::NoMemory)),
+        Err(error) => Err(Failure::Policy(error)),
     }
 }
 
-/// The callers that bytes are.
-fn callers_in(alloc: Global, bytes: &[u8]) -> Result<Callers, Fault>
+/// The callers that bytes are. What is no text is no TOML.
+fn callers_in<'w>(alloc: Global, bytes: &[u8]) -> Result<Callers, Failure<'w>>
     ensures { IfOk result (λ callers. HasCallers bytes.now callers) }
 {
     let Some(text) = utf8_text(bytes) else {
-        return Err(Fault::CallersRefused);
+        return Err(Failure::Callers(CallersError::Syntax));
     };
     match Callers::read(alloc, text) {
         Ok(callers) => Ok(callers),
-        Err(CallersError::NoMemory) => Err(Fault::NoMemory),
-        Err(_) => Err(Fault::CallersRefused),
+        Err(CallersError::NoMemory) => Err(Failure::Plain(Fault::NoMemory)),
+        Err(error) => Err(Failure::Callers(error)),
     }
 }
 
