@@ -12,7 +12,7 @@ headings. It then lists them. A second server under the same limit lists what ha
 whole, and takes what it may. After it a command takes a deposit more or answers `out of memory`. Last `verify` compares
 each receipt in the log of both servers with the register. Of small deposits no less than half of the limit is used, of
 others no less than a third: under that part no start opens the register. What is said above three quarters is said once,
-also by a command that deposits.
+also by a command that deposits, makes or migrates.
 The same for `init` with a dictionary, and for `migrate`, which changes no byte where it is refused."""
 import hashlib
 import os
@@ -158,8 +158,10 @@ def try_dictionary(place, name):
             place.check(f"{name}: {size} MB", OUT_OF_MEMORY, (out, said, status))
             place.check(f"{name}: no register at {size} MB", False, has_tables(place))
         else:
+            told = place.is_nearly_full
             opened = place.limited(*asking("list"), limit=size * MB)
             place.check(f"{name}: opened under {size} MB", (b"", b"", 0), opened)
+            place.check(f"{name}: what it says under {size} MB", place.is_nearly_full, told)
             taken += 1
         for end in ("", "-wal"):
             if os.path.exists(place.path("register" + end)):
@@ -202,8 +204,10 @@ def try_migrate(place, name):
             place.check(f"{name}: {size} MB", OUT_OF_MEMORY, (out, said, status))
             place.check(f"{name}: nothing is changed at {size} MB", before, digests(place))
         else:
+            told = place.is_nearly_full
             out, said, status = place.limited(*asking("list"), limit=size * MB)
             place.check(f"{name}: opened under {size} MB", (1, b"", 0), (out.count(b"\n"), said, status))
+            place.check(f"{name}: what it says under {size} MB", place.is_nearly_full, told)
             taken += 1
     place.check(f"{name}: migrated under some", True, taken > 0)
 

@@ -71,7 +71,9 @@ fn run_command<'w, G: Registers, W: Write, E: Write>(
     requires err { has_failed err.old ≡ false }
 {
     match words {
-        Words::Init { store, dictionary } => init(rt, machine.registers, store, dictionary, out),
+        Words::Init { store, dictionary } => {
+            init(rt, machine.registers, store, dictionary, out, err)
+        }
         Words::Migrate {
             store,
             shows_progress,
@@ -85,19 +87,22 @@ fn run_command<'w, G: Registers, W: Write, E: Write>(
 }
 
 /// Makes a register.
-fn init<'w, G: Registers, W: Write>(
+fn init<'w, G: Registers, W: Write, E: Write>(
     rt: &HostRuntime,
     registers: G,
     store: &'w str,
     dictionary: &'w str,
     out: &mut Watched<W>,
+    err: &mut Watched<E>,
 ) -> Result<u8, Failure<'w>> {
     let alloc = rt.alloc();
     let bytes = read_path(rt, alloc, dictionary)?;
     // Bytes that are no dictionary make no file.
     dictionary_in(alloc, &bytes)?;
     make_private(rt, store);
-    registers.create(rt, alloc, store, &bytes)?;
+    let kept = registers.create(rt, alloc, store, &bytes)?;
+    let _told = tell_if_nearly_full(&kept, err);
+    G::close(kept);
     Ok(tell(out, b"created\n", 0))
 }
 
@@ -113,7 +118,9 @@ fn migrate<'w, G: Registers, W: Write, E: Write>(
     let alloc = rt.alloc();
     let is_wanted = machine.is_terminal || shows_progress;
     let mut lines = ProgressLines::new(alloc, rt, err, is_wanted);
-    migrate_register(rt, alloc, machine.registers, store, &mut lines)?;
+    let kept = migrate_register(rt, alloc, machine.registers, store, &mut lines)?;
+    let _told = tell_if_nearly_full(&kept, err);
+    G::close(kept);
     Ok(tell(out, b"migrated\n", 0))
 }
 

@@ -1,6 +1,7 @@
 //! Registers at paths: what makes and opens them, and what is said of their files.
 
-ghost use Rattle.std.specs.Prelude.{◌≡◌, ◌≤◌, false, IfOk, length};
+ghost use Rattle.std.specs.Prelude.{◌≡◌, ◌≤◌, [], false, IfOk, length};
+ghost use Rattle.ags_dict.specs.Reading.{IsDictionary};
 
 use crate::progress::ProgressLines;
 use ags_cli::Fault;
@@ -21,15 +22,18 @@ pub trait Registers: Drop {
     /// A register that is open.
     type Kept: Keep + NextStart;
 
-    /// Makes an empty register at a path under the dictionary that the bytes are, and closes it.
+    /// Makes an empty register at a path under the dictionary that the bytes are.
     fn create<'w>(
         self,
         rt: &HostRuntime,
         alloc: Global,
         path: &str,
         bytes: &[u8],
-    ) -> Result<(), Failure<'w>>
-        requires { length bytes.now ≤ READABLE };
+    ) -> Result<Self::Kept, Failure<'w>>
+        requires { length bytes.now ≤ READABLE }
+        ensures working { IfOk result (λ kept. Self.Kept.has_failed kept ≡ false) }
+        ensures dictionary { IfOk result (λ kept. IsDictionary bytes.now (Self.Kept.dictionary kept)) }
+        ensures empty { IfOk result (λ kept. Self.Kept.is_sound kept → Self.Kept.deposits kept ≡ []) };
 
     /// Opens the register at a path. `progress` takes note of the deposits that are checked.
     fn open<'w, P: Progress>(
@@ -41,14 +45,15 @@ pub trait Registers: Drop {
     ) -> Result<Self::Kept, Failure<'w>>
         ensures { IfOk result (λ kept. Self.Kept.has_failed kept ≡ false) };
 
-    /// Makes the register of format 1 at a path one of format 2, and closes it.
+    /// Makes the register of format 1 at a path one of format 2.
     fn migrate<'w, P: Progress>(
         self,
         rt: &HostRuntime,
         alloc: Global,
         path: &str,
         progress: &mut P,
-    ) -> Result<(), Failure<'w>>;
+    ) -> Result<Self::Kept, Failure<'w>>
+        ensures { IfOk result (λ kept. Self.Kept.has_failed kept ≡ false) };
 
     /// Closes a register.
     fn close(kept: Self::Kept);
@@ -75,7 +80,7 @@ pub(crate) fn migrate_register<'w, G: Registers, C: Clock, E: Write>(
     registers: G,
     path: &str,
     lines: &mut ProgressLines<'_, '_, C, E>,
-) -> Result<(), Failure<'w>> {
+) -> Result<G::Kept, Failure<'w>> {
     find_file(rt, alloc, path, lines)?;
     registers.migrate(rt, alloc, path, lines)
 }

@@ -4,6 +4,7 @@ ghost use Rattle.std.specs.Prelude.{◌≡◌, ◌⊎◌, ◌≤◌, false, None
 ghost use Rattle.sqlite.specs.Files.{file_state};
 ghost use Rattle.sqlite.specs.State.{HasCleanDisk};
 ghost use Rattle.sqlite.specs.WalFiles.{image_at};
+ghost use Rattle.ags_dict.specs.Reading.{IsDictionary};
 ghost use Rattle.reg_tables.specs.Creates.{HasNoDeposit, ShowsEmptyRegister};
 ghost use Rattle.reg_tables.specs.Making.{RefusesBytes};
 ghost use Rattle.reg_tables.specs.Migrates.{MigratesFiles};
@@ -43,13 +44,10 @@ impl<F: Start> Registers for Files<F> {
         alloc: Global,
         path: &str,
         bytes: &[u8],
-    ) -> Result<(), Failure<'w>> {
+    ) -> Result<SqlKeep<FileStore<FileFrom<F>>>, Failure<'w>> {
         let Files { start } = self;
         match create_store(rt, alloc, path, start, bytes) {
-            Ok(keep) => {
-                keep.close();
-                Ok(())
-            }
+            Ok(keep) => Ok(keep),
             Err((failure, _connection)) => Err(failure),
         }
     }
@@ -74,13 +72,10 @@ impl<F: Start> Registers for Files<F> {
         alloc: Global,
         path: &str,
         progress: &mut P,
-    ) -> Result<(), Failure<'w>> {
+    ) -> Result<SqlKeep<FileStore<FileFrom<F>>>, Failure<'w>> {
         let Files { start } = self;
         match migrate_store(rt, alloc, path, start, progress) {
-            Ok(keep) => {
-                keep.close();
-                Ok(())
-            }
+            Ok(keep) => Ok(keep),
             Err((failure, _connection)) => Err(failure),
         }
     }
@@ -102,6 +97,8 @@ fn create_store<'w, F: Start>(
     (Failure<'w>, Option<Connection<FileStore<FileFrom<F>>>>),
 >
     requires short { length bytes.now ≤ READABLE }
+    ensures working { IfOk result (λ k. k.has_failed ≡ false) }
+    ensures dictionary { IfOk result (λ k. IsDictionary bytes.now k.dictionary) }
     ensures empty { IfOk result (λ k. HasNoDeposit (file_state k.connection)) }
     ensures register { IfOk result (λ k. ShowsEmptyRegister bytes.now (file_state k.connection)) }
     ensures blank { IfOk result (λ k. FindsEmpty (image_at F.Start) (file_state k.connection)) }
@@ -152,6 +149,7 @@ fn migrate_store<'w, F: Start, P: Progress>(
     SqlKeep<FileStore<FileFrom<F>>>,
     (Failure<'w>, Option<Connection<FileStore<FileFrom<F>>>>),
 >
+    ensures working { IfOk result (λ k. k.has_failed ≡ false) }
     ensures migrated { IfOk result (λ k. MigratesFiles (image_at F.Start) k.dictionary (file_state k.connection)) }
     ensures refused { IfErr result (λ e. Reports adopting e.0 (λ error.
         IfSome e.1 (λ c. HasCleanDisk (file_state c) → RefusesMigration (image_at F.Start) error)
