@@ -151,22 +151,29 @@ def try_kind(place, kind, file_of, name):
 def try_dictionary(place, name):
     """A dictionary is taken under a limit only where the register then opens under it."""
     words = ["init", "--store=register", "--dictionary=dictionary"]
-    taken = 0
+    told, told_after = [], []
     for size in range(8, place.limit // MB, 3):
         out, said, status = place.limited(*words, limit=size * MB)
         if status:
             place.check(f"{name}: {size} MB", OUT_OF_MEMORY, (out, said, status))
             place.check(f"{name}: no register at {size} MB", False, has_tables(place))
         else:
-            told = place.is_nearly_full
+            told.append(place.is_nearly_full)
             opened = place.limited(*asking("list"), limit=size * MB)
             place.check(f"{name}: opened under {size} MB", (b"", b"", 0), opened)
-            place.check(f"{name}: what it says under {size} MB", place.is_nearly_full, told)
-            taken += 1
+            told_after.append(place.is_nearly_full)
         for end in ("", "-wal"):
             if os.path.exists(place.path("register" + end)):
                 os.remove(place.path("register" + end))
-    place.check(f"{name}: taken under some", True, taken > 0)
+    compare_told(place, name, told, told_after)
+
+
+def compare_told(place, name, told, told_after):
+    """A command and the start after it say that the next start needs much, under the same limits but for one: they hold
+    other memory as they try it."""
+    place.check(f"{name}: under some limits alone the next start needs much", {False, True}, set(told))
+    place.check(f"{name}: the start after it says so too, but for one limit", True,
+                sum(one != other for one, other in zip(told, told_after)) <= 1)
 
 
 def has_tables(place):
@@ -195,7 +202,7 @@ def try_migrate(place, name):
     place.copy("first", "register")
     place.check(f"{name}: format 1", 4, place.run(*asking("list"))[2])
     place.copy("register", "first")
-    taken = 0
+    told, told_after = [], []
     for size in range(10, place.limit // MB, 3):
         place.copy("first", "register")
         before = digests(place)
@@ -204,12 +211,11 @@ def try_migrate(place, name):
             place.check(f"{name}: {size} MB", OUT_OF_MEMORY, (out, said, status))
             place.check(f"{name}: nothing is changed at {size} MB", before, digests(place))
         else:
-            told = place.is_nearly_full
+            told.append(place.is_nearly_full)
             out, said, status = place.limited(*asking("list"), limit=size * MB)
             place.check(f"{name}: opened under {size} MB", (1, b"", 0), (out.count(b"\n"), said, status))
-            place.check(f"{name}: what it says under {size} MB", place.is_nearly_full, told)
-            taken += 1
-    place.check(f"{name}: migrated under some", True, taken > 0)
+            told_after.append(place.is_nearly_full)
+    compare_told(place, name, told, told_after)
 
 
 def try_told(program, folder):
