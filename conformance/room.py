@@ -53,7 +53,7 @@ def renamed(text):
 
 # The files of each kind, by number, and the limits in MB under which it is tried where none is named. Under 48 MB a
 # register takes no file of 1 MB, and none of 20 kB with many steps.
-KINDS = [("1 kB", small, (48, 96, 512)), ("500 kB", renamed(files.deep(500_000)), (48,)),
+KINDS = [("1 kB", small, (48, 96, 1024)), ("500 kB", renamed(files.deep(500_000)), (48,)),
          ("1 MB", renamed(files.deep(MB)), (96, 1024)),
          ("steps of 10 kB", renamed(files.steps(10_000)), (48, 96)),
          ("steps of 20 kB", renamed(files.steps(20_000)), (96, 1024)),
