@@ -29,6 +29,8 @@ def largest(size, text_of, sample=1000):
         low, high = high, high + high // 20 + 1
     low = max(low, high - high // 5 - 1)
     while len(text_of(low)) > size:
+        if low == 0:
+            raise ValueError(f"a text of {size} bytes has no room for what comes before")
         low //= 2
     while low + 1 < high:
         middle = (low + high) // 2

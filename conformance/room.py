@@ -283,7 +283,7 @@ def measure(program):
             ("steps", mini, files.steps, 10_000, 8), ("steps", mini, files.steps, 10_000, 9),
             ("steps", mini, files.steps, 20_000, 4), ("steps, one", mini, files.steps, 40_000, 1),
             ("sets", mini, costly.subsets_without_findings, 50_000, 1),
-            ("narrow", mini, files.narrow, MB, 1), ("wide", mini, files.wide, MB, 1),
+            ("narrow", mini, files.narrow, MB, 1), ("wide", mini, files.wide, 4 * MB, 1),
             ("children", mini, files.children, MB, 1), ("160 groups", dictionaries.large(), lambda size: None, 0, 1),
             ("1,000 groups", dictionaries.large(1000, 100_000), lambda size: None, 0, 1)]:
         text = make(size)
